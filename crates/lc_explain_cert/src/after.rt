@@ -77,7 +77,7 @@ fn push_comparison(
     Ok(())
 }
 
-/// Says behind a state what decides there that a goal of this kind fails.
+/// Appends to a state what decides there that a goal of this kind fails.
 pub(crate) fn push_decisive(
     alloc: Global,
     text: &mut String,

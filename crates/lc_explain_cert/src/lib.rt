@@ -20,7 +20,7 @@ mod source;
 mod state;
 mod unproved;
 
-pub use certificate::{certificate_explanation, unfound_explanation};
+pub use certificate::{certificate_explanation, condition_explanation, unfound_explanation};
 pub use formula::proof_explanation;
 pub use lints::lints;
 pub use misses::{Missed, unfound_conditions};

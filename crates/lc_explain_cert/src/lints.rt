@@ -81,7 +81,7 @@ impl Drop for Reached {
 }
 
 impl Reached {
-    /// A first point, of so many.
+    /// The point `first` of `count` points is reached.
     fn new(alloc: Global, count: usize, first: PointId) -> Result<Reached, OutOfMemory> {
         let mut is_reached = Vec::new(alloc);
         for _ in 0..count {
@@ -141,7 +141,7 @@ fn unmarked_return(
     Ok(None)
 }
 
-/// Says of each operation, behind others, where its call may return without a mark.
+/// Appends for each operation where its call may return without a mark.
 fn push_unmarked(
     alloc: Global,
     text: &mut Vec<u8>,
@@ -178,7 +178,7 @@ fn is_named(development: &Development, place: usize) -> bool {
     false
 }
 
-/// Says of each action, behind others, that no edge names it, if none does.
+/// Appends for each action that no edge names it, if none does.
 fn push_unnamed(
     alloc: Global,
     text: &mut Vec<u8>,

@@ -1,4 +1,4 @@
-//! The conditions of which no proof is found: the first, and those behind it, for which one is sought as well.
+//! The conditions for which no proof is found: the first, and those after it, for which one is sought too.
 ghost use Rattle.std.specs.Prelude.{map};
 ghost use Rattle.lc_check.specs.Answers.{IsBounded};
 ghost use Rattle.lc_cond.specs.ConditionView.{condition_in, AreConditions, IsCondition};
@@ -25,7 +25,7 @@ use std::alloc::Global;
 /// How many steps are tried for a condition.
 const BUDGET: u64 = 1_000_000;
 
-/// The first condition of which no proof was found, and the model in which the search for one ended, if it ended in one.
+/// The first condition for which no proof was found, and the model in which the search for one ended, if it ended in one.
 #[derive(Clone, Copy)]
 pub struct Missed<'a> {
     pub number: u64,
@@ -47,7 +47,7 @@ struct Misses<'a> {
     first: Missed<'a>,
     /// Whether more than a line is said of each.
     is_full: bool,
-    /// What is said of those that stand at no point, and then of those at each point.
+    /// What is said of those at no point, and then of those at each point.
     groups: Vec<Vec<u8>>,
     count: u64,
 }
@@ -185,7 +185,7 @@ impl Misses<'_> {
         Ok(())
     }
 
-    /// Seeks a proof of a condition behind the first without one, and says it where none is found.
+    /// Seeks a proof of a condition from the first without one on, and says so if none is found.
     fn seek(
         &mut self,
         alloc: Global,
@@ -205,7 +205,7 @@ impl Misses<'_> {
         }
     }
 
-    /// The groups, each below its point, and how many conditions there are in them, of so many.
+    /// The groups, each below its point, and how many of `total` conditions are in them.
     fn told(&self, alloc: Global, total: u64) -> Result<Vec<u8>, OutOfMemory> {
         let mut text = Vec::new(alloc);
         for (place, group) in self.groups.iter().enumerate() {
@@ -223,7 +223,7 @@ impl Misses<'_> {
     }
 }
 
-/// What stands above a group.
+/// What is printed above a group.
 fn title_of(alloc: Global, development: &Development, place: usize) -> Result<String, OutOfMemory> {
     let Some(point) = place.checked_sub(1) else {
         return Ok(String::from_str(alloc, "at no point:\n")?);
@@ -283,8 +283,8 @@ fn seek_all(
     Ok(())
 }
 
-/// Says of each condition of which no proof is found that there is none, a line each or in full, grouped by points: of the first, and
-/// of those behind it, for which one is sought with these hints.
+/// The conditions for which no proof is found, a line each or in full, grouped by points: the first, and those after it, for which one is
+/// sought with these hints.
 pub fn unfound_conditions(
     alloc: Global,
     source: Source<'_>,

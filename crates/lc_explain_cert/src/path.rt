@@ -72,7 +72,7 @@ fn way_count(development: &Development, operation: OpId, riders: &[Rider]) -> us
     count
 }
 
-/// The way past a rider, where `behind` ways are past those behind it: the first rider's varies slowest.
+/// The way past a rider, if there are `behind` ways past those after it: the first rider's varies slowest.
 fn way_of(path: usize, fork: Fork, behind: usize) -> usize {
     match path.checked_div(behind) {
         Some(ways) => ways.checked_rem(fork.count()).unwrap_or(0),
@@ -121,7 +121,7 @@ fn push_way(
     Ok(())
 }
 
-/// Says behind others which ways a path takes past the riders in the body of an operation that leave more than one.
+/// Appends which ways a path takes past the riders in the body of an operation that leave more than one.
 fn push_ways(
     text: &mut String,
     development: &Development,
@@ -147,7 +147,7 @@ fn push_ways(
     Ok(())
 }
 
-/// Says behind others what the path of a condition fixes, if its edge has more than one.
+/// Appends what the path of a condition fixes, if its edge has more than one.
 pub(crate) fn push_path(
     text: &mut String,
     development: &Development,

@@ -1,4 +1,4 @@
-//! Where what a condition speaks of stands in the file of the development.
+//! Where in the file of the development is what a condition speaks of.
 use crate::naming::{action_at_edge, action_name, next_name, point_name};
 use lc_base::OutOfMemory;
 use lc_cond::{Condition, Kind, Passage, Place as Standing, Which};
@@ -23,7 +23,7 @@ fn number_of(which: Which) -> usize {
     }
 }
 
-/// The point at which a condition stands; empty where it stands at none.
+/// The point of a condition; empty if it has none.
 fn point_of<'a>(parts: &'a Parts, place: &Standing) -> &'a str {
     match place.point {
         Some(point) => point_name(parts, point),
@@ -31,7 +31,7 @@ fn point_of<'a>(parts: &'a Parts, place: &Standing) -> &'a str {
     }
 }
 
-/// The conjunct of a point or of idle clients, if no point is named.
+/// A conjunct of a point, or of idle clients if no point is named.
 fn conjunct_of(point: &str, number: usize) -> Part<'_> {
     if point.is_empty() {
         Part::Idle(number)
@@ -40,7 +40,7 @@ fn conjunct_of(point: &str, number: usize) -> Part<'_> {
     }
 }
 
-/// The conjunct that is to hold where an edge leads.
+/// The conjunct that is to hold at the point to which an edge leads.
 fn next_conjunct<'a>(parts: &'a Parts, place: &Standing) -> Part<'a> {
     let number = number_of(place.which);
     match next_name(parts, place) {
@@ -72,7 +72,7 @@ fn rider_of<'a>(parts: &'a Parts, place: &Standing) -> Option<Part<'a>> {
     })
 }
 
-/// What is to hold by a condition, where that stands in the file.
+/// The part of the file that is to hold by a condition.
 fn claim_of<'a>(development: &'a Development, condition: &Condition) -> Option<Part<'a>> {
     let parts = development.parts();
     let place = &condition.place;
@@ -90,7 +90,7 @@ fn claim_of<'a>(development: &'a Development, condition: &Condition) -> Option<P
     }
 }
 
-/// Where a condition stands in the file: at a point, or where another client does an action.
+/// The part of the file at which a condition is: a point, or the action of another client.
 fn step_of<'a>(development: &'a Development, condition: &Condition) -> Option<Part<'a>> {
     let parts = development.parts();
     let place = &condition.place;
@@ -111,7 +111,7 @@ fn instead_of(part: Part<'_>) -> Part<'_> {
     }
 }
 
-/// What is to hold by a condition, as it stands in a file.
+/// What is to hold by a condition, in a file.
 #[derive(Clone, Copy)]
 struct Claim {
     /// Its place, or that of the action which lacks it.
@@ -120,7 +120,7 @@ struct Claim {
     is_there: bool,
 }
 
-/// Where what is to hold stands in a file.
+/// The place in a file of what is to hold.
 fn claim_in(source: Source<'_>, part: Part<'_>) -> Claim {
     let place = part_place(source.bytes, part);
     if place.is_some() {
@@ -135,12 +135,9 @@ fn claim_in(source: Source<'_>, part: Part<'_>) -> Claim {
     }
 }
 
-/// What is said of what is to hold.
-fn claim_words(kind: Kind, is_there: bool) -> &'static str {
+/// What is said of what is to hold, if it is there.
+fn claim_words(kind: Kind) -> &'static str {
     match kind {
-        Kind::Column if !is_there => {
-            "this action does not store in the column: add (COLUMN INDEX VALUE) to it"
-        }
         Kind::Column => "the action stores this, and the step is to store the same",
         Kind::Guard => "this guard of the action is to hold before the step",
         Kind::Owed(_) => "this mark asks for it, after the marks before it",
@@ -151,6 +148,18 @@ fn claim_words(kind: Kind, is_there: bool) -> &'static str {
         Kind::Entry => "this is to hold when a call begins",
         _ => "this is to hold after the step",
     }
+}
+
+/// What is said of an action that lacks an update of the column that a condition is about.
+fn lacking_words(alloc: Global, parts: &Parts, which: Which) -> Result<String, OutOfMemory> {
+    let column = match which {
+        Which::Column(column) => column_name(parts, column),
+        Which::Alone | Which::Numbered(_) => "",
+    };
+    let text = format!(in alloc;
+        "this action does not store in {column}, and the step does: add ({column} INDEX VALUE) to it"
+    )?;
+    Ok(text)
 }
 
 /// What is asked of a client whose call has its mark.
@@ -167,7 +176,7 @@ fn says_marked(bytes: &[u8], place: Option<Place>) -> bool {
     }
 }
 
-/// A sentence of a place in the file, if there is one, behind others.
+/// Appends to `text` a sentence of a place in the file, if there is one.
 fn push_located(
     alloc: Global,
     text: &mut Vec<u8>,
@@ -183,7 +192,7 @@ fn push_located(
     Ok(())
 }
 
-/// A note of a part of the file, if it is there, behind others.
+/// Appends to `text` a note of a part of the file, if it is there.
 pub(crate) fn push_part(
     alloc: Global,
     text: &mut Vec<u8>,
@@ -195,7 +204,27 @@ pub(crate) fn push_part(
     push_located(alloc, text, source, place, Label::Note, sentence)
 }
 
-/// Says where a condition stands in the file, with this sentence, and where what is to hold by it does, behind others.
+/// What is said of what is to hold by a condition, in the file with these bytes.
+fn claim_sentence(
+    alloc: Global,
+    bytes: &[u8],
+    development: &Development,
+    condition: &Condition,
+    claim: Claim,
+) -> Result<String, OutOfMemory> {
+    let kind = condition.kind;
+    if matches!(kind, Kind::Column) && !claim.is_there {
+        return lacking_words(alloc, development.parts(), condition.place.which);
+    }
+    let words = if matches!(kind, Kind::Next) && says_marked(bytes, claim.place) {
+        "this is to hold after the step: pend is 2 after a mark, as (lin)"
+    } else {
+        claim_words(kind)
+    };
+    Ok(String::from_str(alloc, words)?)
+}
+
+/// Appends to `text` where a condition is in the file, with this sentence, and where that is which is to hold by it.
 pub(crate) fn push_places(
     alloc: Global,
     text: &mut Vec<u8>,
@@ -213,11 +242,7 @@ pub(crate) fn push_places(
     let Some(claim) = claim_of(development, condition) else {
         return Ok(());
     };
-    let Claim { place, is_there } = claim_in(source, claim);
-    let words = if matches!(condition.kind, Kind::Next) && says_marked(source.bytes, place) {
-        "this is to hold after the step: pend is 2 after a mark, as (lin)"
-    } else {
-        claim_words(condition.kind, is_there)
-    };
-    push_located(alloc, text, source, place, Label::Note, words)
+    let claim = claim_in(source, claim);
+    let sentence = claim_sentence(alloc, source.bytes, development, condition, claim)?;
+    push_located(alloc, text, source, claim.place, Label::Note, &sentence)
 }

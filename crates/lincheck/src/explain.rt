@@ -5,10 +5,10 @@ use crate::kept::Texts;
 use crate::telling::Heard;
 use lc_base::{Fault, OutOfMemory, Refusal};
 use lc_cond::Numbering;
-use lc_explain::{FileKind, Part, part_place, report};
+use lc_explain::{FileKind, report};
 use lc_explain_cert::{
-    Missed, Source, certificate_explanation, lints, proof_explanation, unfound_conditions,
-    unfound_explanation, unproved_conditions,
+    Missed, Source, certificate_explanation, condition_explanation, lints, proof_explanation,
+    unfound_conditions, unfound_explanation, unproved_conditions,
 };
 use lc_explain_hist::{history_explanation, recorded_explanation, unordered_explanation};
 use lc_hints::{Hints, hints_of};
@@ -243,8 +243,8 @@ fn sought_in(request: Request<'_>) -> Option<(&str, usize)> {
     }
 }
 
-/// What is said of a certificate that was sought: that no proof was found of the condition of a number, if one is given; and how many
-/// proofs were carried.
+/// What is said of a certificate that was sought: what is seldom meant in the development; that no proof was found of the condition of a
+/// number, if one is given; and how many proofs were carried.
 fn sought_told(
     alloc: Global,
     request: Request<'_>,
@@ -259,11 +259,10 @@ fn sought_told(
     let Some(development) = development_in(alloc, bytes)? else {
         return Ok(None);
     };
-    let mut text = Vec::new(alloc);
+    let source = Source { path, bytes };
+    let mut text = lints(alloc, source, &development)?;
     if let Some(number) = unfound {
         let model = heard.model();
-        let source = Source { path, bytes };
-        text.extend_from_slice(&lints(alloc, source, &development)?)?;
         let said = unfound_explanation(alloc, source, &development, number, model)?;
         text.extend_from_slice(&said)?;
     }
@@ -274,7 +273,74 @@ fn sought_told(
     Ok(Some(text))
 }
 
-/// What is said of a request that did what it is for: how many proofs were carried, or that the point that is named is none.
+/// What is said of a development whose certificate is accepted: what is seldom meant in it.
+fn accepted_told(
+    alloc: Global,
+    request: Request<'_>,
+    texts: &Texts,
+) -> Result<Option<Vec<u8>>, OutOfMemory> {
+    let source = source_of(request, texts);
+    match development_in(alloc, source.bytes)? {
+        Some(development) => Ok(Some(lints(alloc, source, &development)?)),
+        None => Ok(None),
+    }
+}
+
+/// What is said of a condition that is printed: its places in the file, and its hypotheses by the names of the file.
+fn condition_told(
+    alloc: Global,
+    request: Request<'_>,
+    texts: &Texts,
+    number: u64,
+) -> Result<Option<Vec<u8>>, OutOfMemory> {
+    let source = source_of(request, texts);
+    match development_in(alloc, source.bytes)? {
+        Some(development) => {
+            let text = condition_explanation(alloc, source, &development, number)?;
+            Ok(Some(text))
+        }
+        None => Ok(None),
+    }
+}
+
+/// The names of the points of a development, with commas between them.
+fn point_names(alloc: Global, development: &Development) -> Result<String, OutOfMemory> {
+    let mut text = String::new(alloc);
+    for point in &development.parts().object.parts().points {
+        if !text.is_empty() {
+            text.push_str(", ")?;
+        }
+        text.push_str(point.name.as_str())?;
+    }
+    Ok(text)
+}
+
+/// Whether a development has a point of this name, or this is the word that conditions at no point have.
+fn is_point_word(development: &Development, word: &str) -> bool {
+    for point in &development.parts().object.parts().points {
+        if point.name.as_str() == word {
+            return true;
+        }
+    }
+    word == "-"
+}
+
+/// What is said of conditions that are chosen by a point, if the development has none of this name.
+fn point_told(alloc: Global, texts: &Texts, name: &str) -> Result<Option<Vec<u8>>, OutOfMemory> {
+    let Some(development) = development_in(alloc, texts.text(0))? else {
+        return Ok(None);
+    };
+    if is_point_word(&development, name) {
+        return Ok(None);
+    }
+    let names = point_names(alloc, &development)?;
+    let text = format!(in alloc;
+        "lincheck: no point is named {name}; the points are {names}\n"
+    )?;
+    Ok(Some(text.into_bytes()))
+}
+
+/// What is said of a request that did what it is for.
 fn answered_told(
     alloc: Global,
     request: Request<'_>,
@@ -282,7 +348,14 @@ fn answered_told(
     heard: &Heard,
 ) -> Result<Option<Vec<u8>>, OutOfMemory> {
     match request {
-        Request::Carry { .. } => sought_told(alloc, request, texts, None, heard),
+        Request::Prove { .. } | Request::Carry { .. } => {
+            sought_told(alloc, request, texts, None, heard)
+        }
+        Request::Check { .. } => accepted_told(alloc, request, texts),
+        Request::Conditions {
+            chosen: Chosen::Number(number),
+            ..
+        } => condition_told(alloc, request, texts, number),
         Request::Conditions {
             chosen: Chosen::Those {
                 point: Some(point),
@@ -348,15 +421,6 @@ fn misses_told(
     let full = asked.is_explained;
     let text = unfound_conditions(alloc, source, &development, &hints, first, full)?;
     Ok(Some(text))
-}
-
-/// What is said of conditions that are chosen by a point, if a development has no point of this name.
-fn point_told(alloc: Global, texts: &Texts, name: &str) -> Result<Option<Vec<u8>>, OutOfMemory> {
-    if part_place(texts.text(0), Part::Point(name)).is_some() {
-        return Ok(None);
-    }
-    let text = format!(in alloc; "lincheck: no point is named {name}\n")?;
-    Ok(Some(text.into_bytes()))
 }
 
 /// Whether all that is missing is asked for.

@@ -46,7 +46,7 @@ impl Texts {
         }
     }
 
-    /// Puts bytes behind those of the file that was opened last.
+    /// Appends bytes to those of the file that was opened last.
     fn push(&mut self, piece: &[u8]) -> Result<(), OutOfMemory> {
         for _ in self.texts.len()..self.opened {
             self.texts.push(Vec::new(self.alloc))?;

@@ -28,7 +28,7 @@ mod sink;
 mod telling;
 mod workers;
 
-pub use answer::{COMMAND_LINE_FAULT, INPUT_OR_OUTPUT_FAULT, OUT_OF_MEMORY, SUCCESS};
+pub use answer::{COMMAND_LINE_FAULT, INPUT_OR_OUTPUT_FAULT, OUT_OF_MEMORY, REFUSED, SUCCESS};
 pub use disk::Disk;
 pub use files::Files;
 pub use program::execute;

@@ -81,12 +81,30 @@ fn hand_out(rt: &HostRuntime, path: &str, status: u8, text: &[u8]) -> io::Result
     Ok(status)
 }
 
-/// Puts the answer of this status into the file at a path, if it is a certificate, and prints every other; returns the status.
-pub fn put_answer(rt: &HostRuntime, path: &str, status: u8, text: &[u8]) -> u8 {
+/// Puts the answer of this status into the file at a path, if it is a certificate, and prints every other; returns the status, and says
+/// why if that cannot be done.
+pub fn put_answer<E: Write>(
+    rt: &HostRuntime,
+    path: &str,
+    status: u8,
+    text: &[u8],
+    err: &mut E,
+) -> u8 {
     match hand_out(rt, path, status, text) {
         Ok(status) => status,
         Err(error) => {
-            let _ = eprintln!(rt; "lincheck: cannot write {path}\n  {error}");
+            let _ = writeln!(err, "lincheck: cannot write {path}\n  {error}");
+            INPUT_OR_OUTPUT_FAULT
+        }
+    }
+}
+
+/// Prints an answer of this status; returns the status, and says if it cannot be printed.
+pub fn print_whole<E: Write>(rt: &HostRuntime, status: u8, text: &[u8], err: &mut E) -> u8 {
+    match print_answer(rt, text) {
+        Ok(()) => status,
+        Err(_) => {
+            let _ = writeln!(err, "lincheck: cannot write");
             INPUT_OR_OUTPUT_FAULT
         }
     }
