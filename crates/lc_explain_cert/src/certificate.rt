@@ -4,6 +4,7 @@ ghost use Rattle.lc_cond.specs.ConditionView.{AreConditions, IsCondition};
 
 use crate::condition::condition_words;
 use crate::depth::has_deep_terms;
+use crate::ending::Ending;
 use crate::failing::model_text;
 use crate::flawed::{Flawed, said, with_variables};
 use crate::names::Names;
@@ -16,7 +17,6 @@ use lc_cond::{Condition, NumberedPart, Numbering};
 use lc_explain::{Label, entry_place, proof_place, step_place};
 use lc_outline::Development;
 use lc_place::{Place, item_place};
-use lc_search::CounterModel;
 use lc_table::Terms;
 use std::alloc::Global;
 
@@ -224,23 +224,28 @@ pub fn certificate_explanation(
     Ok(Some(text))
 }
 
-/// The hypotheses of a condition for which no proof was found, and a state in which it fails, if the search ended in a model.
+/// The hypotheses of a condition for which no proof was found, and a state in which it fails, if the search ended in a model, or
+/// why it was given up.
 fn unfound_lines(
     alloc: Global,
     development: &Development,
     terms: &Terms,
     condition: &Condition,
-    model: Option<&CounterModel>,
+    ending: Ending<'_>,
 ) -> Result<String, OutOfMemory>
     requires { IsCondition terms.now condition.now }
 {
     let names = Names::of_condition(alloc, development.parts(), condition)?;
     let mut text = goal_text(alloc, &names, terms, &condition.goal)?;
     names.push_variables(&mut text)?;
-    if let Some(model) = model {
+    if let Ending::Model(model) = ending {
         let kind = condition.kind;
         let said = model_text(alloc, &names, terms, kind, &condition.goal, model)?;
         text.push_str(&said)?;
+    }
+    let cause = ending.cause();
+    if !cause.is_empty() {
+        writeln!(text, "  the search was given up: {cause}")?;
     }
     Ok(text)
 }
@@ -251,18 +256,18 @@ fn unfound_state(
     development: &Development,
     terms: &Terms,
     condition: &Condition,
-    model: Option<&CounterModel>,
+    ending: Ending<'_>,
 ) -> Result<String, OutOfMemory>
     requires { IsCondition terms.now condition.now }
 {
     if has_deep_terms(alloc, terms, &condition.goal)? {
         return Ok(String::from_str(alloc, DEEP)?);
     }
-    unfound_lines(alloc, development, terms, condition, model)
+    unfound_lines(alloc, development, terms, condition, ending)
 }
 
 /// Appends to `text` a sentence of a condition, with the places in the file of the development of what it speaks of, its hypotheses, and a
-/// state in which it fails, if the search for a proof ended in a model.
+/// state in which it fails, if the search for a proof ended in a model, or why it was given up.
 fn push_condition(
     alloc: Global,
     text: &mut Vec<u8>,
@@ -272,26 +277,18 @@ fn push_condition(
     condition: &Condition,
     label: Label,
     sentence: &str,
-    model: Option<&CounterModel>,
+    ending: Ending<'_>,
 ) -> Result<(), OutOfMemory>
     requires { IsCondition terms.now condition.now }
 {
-    push_places(
-        alloc,
-        text,
-        source,
-        development,
-        condition,
-        label,
-        sentence,
-    )?;
-    let lines = unfound_state(alloc, development, terms, condition, model)?;
+    push_places(alloc, text, source, development, condition, label, sentence)?;
+    let lines = unfound_state(alloc, development, terms, condition, ending)?;
     text.extend_from_slice(lines.as_bytes())?;
     Ok(())
 }
 
 /// Appends to `text` what a condition asks for which no proof was found, with the places in the file of the development of what it speaks
-/// of, its hypotheses, and a state in which it fails, if the search for a proof ended in a model.
+/// of, its hypotheses, and a state in which it fails, if the search for a proof ended in a model, or why it was given up.
 pub(crate) fn push_unfound(
     alloc: Global,
     text: &mut Vec<u8>,
@@ -300,7 +297,7 @@ pub(crate) fn push_unfound(
     terms: &Terms,
     number: u64,
     condition: &Condition,
-    model: Option<&CounterModel>,
+    ending: Ending<'_>,
 ) -> Result<(), OutOfMemory>
     requires { IsCondition terms.now condition.now }
 {
@@ -316,7 +313,7 @@ pub(crate) fn push_unfound(
         condition,
         label,
         &sentence,
-        model,
+        ending,
     )
 }
 
@@ -326,7 +323,7 @@ pub fn unfound_explanation(
     source: Source<'_>,
     development: &Development,
     number: u64,
-    model: Option<&CounterModel>,
+    ending: Ending<'_>,
 ) -> Result<Vec<u8>, OutOfMemory> {
     let numbering = Numbering::new(alloc, development)?;
     let mut terms = Terms::new(alloc);
@@ -343,7 +340,7 @@ pub fn unfound_explanation(
         &terms,
         number,
         condition,
-        model,
+        ending,
     )?;
     Ok(text)
 }
@@ -375,7 +372,7 @@ pub fn condition_explanation(
         condition,
         label,
         &sentence,
-        None,
+        Ending::Unknown,
     )?;
     Ok(text)
 }

@@ -6,6 +6,7 @@ mod after;
 mod certificate;
 mod condition;
 mod depth;
+mod ending;
 mod failing;
 mod flawed;
 mod formula;
@@ -21,6 +22,7 @@ mod state;
 mod unproved;
 
 pub use certificate::{certificate_explanation, condition_explanation, unfound_explanation};
+pub use ending::Ending;
 pub use formula::proof_explanation;
 pub use lints::lints;
 pub use misses::{Missed, unfound_conditions};

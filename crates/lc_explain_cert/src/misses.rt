@@ -9,6 +9,7 @@ ghost use Rattle.lc_term.specs.Lists.{Every};
 
 use crate::certificate::push_unfound;
 use crate::condition::condition_words;
+use crate::ending::Ending;
 use crate::naming::point_name;
 use crate::source::Source;
 use lc_base::{FILE_LIMIT, Fault, OutOfMemory, PointId};
@@ -18,25 +19,27 @@ use lc_cond::{Condition, NumberedPart, Numbering};
 use lc_hints::Hints;
 use lc_kernel::Proof;
 use lc_outline::Development;
-use lc_search::{CounterModel, End, search};
+use lc_search::{Cause, CounterModel, End, search};
 use lc_table::Terms;
 use std::alloc::Global;
 
 /// How many steps are tried for a condition.
 const BUDGET: u64 = 1_000_000;
 
-/// The first condition for which no proof was found, and the model in which the search for one ended, if it ended in one.
+/// The first condition for which no proof was found, and how the search for one ended.
 #[derive(Clone, Copy)]
 pub struct Missed<'a> {
     pub number: u64,
-    pub model: Option<&'a CounterModel>,
+    pub ending: Ending<'a>,
 }
 
 /// What a search came to.
 #[derive(Drop)]
 enum Ended {
     Found,
-    Missed(Option<CounterModel>),
+    Model(CounterModel),
+    GivenUp(Cause),
+    Large,
 }
 
 /// What is said of the conditions without a proof.
@@ -116,8 +119,9 @@ fn sought(
     let ended = search(alloc, terms, &condition.goal, uses, cuts, BUDGET)?.end;
     match ended {
         End::Found(_) => Ok(Ended::Found),
-        End::NotFound(model) => Ok(Ended::Missed(Some(model))),
-        End::Spent(_) | End::Large => Ok(Ended::Missed(None)),
+        End::NotFound(model) => Ok(Ended::Model(model)),
+        End::Spent(cause) => Ok(Ended::GivenUp(cause)),
+        End::Large => Ok(Ended::Large),
     }
 }
 
@@ -137,7 +141,7 @@ impl Misses<'_> {
         terms: &Terms,
         number: u64,
         condition: &Condition,
-        model: Option<&CounterModel>,
+        ending: Ending<'_>,
     ) -> Result<Vec<u8>, OutOfMemory>
         requires known { IsCondition terms.now condition.now }
     {
@@ -152,12 +156,17 @@ impl Misses<'_> {
                 terms,
                 number,
                 condition,
-                model,
+                ending,
             )?;
             return Ok(text);
         }
         let words = condition_words(alloc, self.development, condition)?;
-        let line = format!(in alloc; "  condition {number} ({words})\n")?;
+        let cause = ending.cause();
+        let line = if cause.is_empty() {
+            format!(in alloc; "  condition {number} ({words})\n")?
+        } else {
+            format!(in alloc; "  condition {number} ({words}), given up: {cause}\n")?
+        };
         text.extend_from_slice(line.as_bytes())?;
         Ok(text)
     }
@@ -169,11 +178,11 @@ impl Misses<'_> {
         terms: &Terms,
         number: u64,
         condition: &Condition,
-        model: Option<&CounterModel>,
+        ending: Ending<'_>,
     ) -> Result<(), OutOfMemory>
         requires known { IsCondition terms.now condition.now }
     {
-        let text = self.said_of(alloc, terms, number, condition, model)?;
+        let text = self.said_of(alloc, terms, number, condition, ending)?;
         let place = group_of(condition);
         for _ in self.groups.len()..place.saturating_add(1) {
             self.groups.push(Vec::new(alloc))?;
@@ -197,11 +206,17 @@ impl Misses<'_> {
     {
         let first = self.first;
         if number == first.number {
-            return self.push(alloc, terms, number, condition, first.model);
+            return self.push(alloc, terms, number, condition, first.ending);
         }
         match sought(alloc, terms, number, condition, self.hints)? {
             Ended::Found => Ok(()),
-            Ended::Missed(model) => self.push(alloc, terms, number, condition, model.as_ref()),
+            Ended::Model(model) => {
+                self.push(alloc, terms, number, condition, Ending::Model(&model))
+            }
+            Ended::GivenUp(cause) => {
+                self.push(alloc, terms, number, condition, Ending::GivenUp(cause))
+            }
+            Ended::Large => self.push(alloc, terms, number, condition, Ending::Large),
         }
     }
 

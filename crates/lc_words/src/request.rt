@@ -50,8 +50,8 @@ pub enum Request<'a> {
         all: bool,
         progress: bool,
     },
-    /// Find a certificate of the development in a file, with the hints in another, if there is one; and say of which conditions no proof
-    /// was found, and how far it is.
+    /// Find a certificate of the development in a file, with the hints in another, if there is one; and say for which conditions no
+    /// proof was found, and how far it is.
     Prove {
         development: &'a str,
         hints: Option<&'a str>,
@@ -77,7 +77,7 @@ pub enum Request<'a> {
         development: &'a str,
         history: &'a str,
     },
-    /// Find an order that linearizes the history in a file, by the specification in another, over so many nodes, if a number is
+    /// Find an order that linearizes the history in a file, by the specification in another, over `budget` nodes, if a number is
     /// given; or say with a word whether there is one.
     Order {
         development: &'a str,

@@ -6,7 +6,8 @@ pub(crate) const ABOUT: &str = "Checks written proofs that concurrent objects ar
 
 pub(crate) const EXIT_STATUS: &str = "\
 A file that is not accepted is answered by one line on standard output: `refused`, a code, and numbers. With --explain each
-command that reads files also says where and why, on standard error.
+command that reads files also says where and why, on standard error; on a terminal it does so unless --quiet is written. With
+--json it says so by JSON objects, a line each, as editors read them. The path - is standard input.
 
 Exit status:
   0  accepted, or what was asked for is printed
@@ -50,7 +51,7 @@ step of the proof holds. Else it prints one line:
   refused 6 ITEM       a number or a count is beyond a limit
   refused 11 0 STEP R  the step of the proof does not hold, for reason R
   refused 12 0 STEP    the arithmetic of the step leaves 128 bits
-Bytes, items and steps are counted from 0, items and steps each before what stands in it.
+Bytes, items and steps are counted from 0, an item and a step each before those inside it.
 
 Example:
   lincheck formula examples/first.formula
@@ -59,7 +60,7 @@ Example:
 pub(crate) const JUDGE: &str = "Judges whether an order linearizes a history";
 
 pub(crate) const JUDGE_DEVELOPMENT: &str =
-    "A file that begins with a specification; what stands behind it is not looked at";
+    "A file that begins with a specification; what comes after it is not looked at";
 
 pub(crate) const JUDGE_HISTORY: &str =
     "A JSON file: an object with the arrays `events` and `order`";
@@ -76,7 +77,7 @@ Else it prints one line:
   refused 13 ITEM          the item of HISTORY is not of the form: 0 is the whole, then come the events, then the order
   refused 14 PLACE REASON  the entry there, counted from 0, is out of order:
        1 it is not its client's call of this number, 2 the call returned another reply,
-       3 behind the last place: a call that returned is missing,
+       3 after the last place: a call that returned is missing,
        4 the object does not give this reply here, or not by the choice that the entry names,
        5 the call of a later entry returned before this one began
   overflow                 a number that the specification reaches leaves 64 bits
@@ -89,9 +90,9 @@ pub(crate) const DRAW: &str = "Draws a history with its order";
 
 pub(crate) const DRAW_ANSWER: &str = "\
 Reads DEV and HISTORY as `judge` does, and prints a picture as SVG: a line for each client, a bar for each call from its beginning
-to its return, open at the right where it has not returned, and in the bars the entries of the order as marks with their places.
-What makes the order no linearization stands out, and the reason stands below. A file that `judge` refuses by the codes 1 to 4,
-6 or 13 is refused so.
+to its return, open at the right if it has not returned, and in the bars the entries of the order as marks with their places.
+What makes the order no linearization is marked, and the reason is written below. A file that `judge` refuses by the codes 1 to 4,
+6 or 13 is refused here too.
 
 Example:
   lincheck draw examples/counter.spec examples/linearizable.json > history.svg
@@ -138,8 +139,8 @@ Reads DEV and prints it on two lines, the specification and the object, without 
 names that quantifiers bind are b0, b1, and so on, counted from the outermost. A DEV that is no development is refused as by
 `check`.
 
-With --lines it prints the two forms as they stand in DEV, without comments, over lines of 100 columns: a list that does not fit
-into the rest of its line goes on below, indented by 2. What is printed so is printed again as it stands.
+With --lines it prints the two forms as they are in DEV, without comments, over lines of 100 columns: a list that does not fit
+into the rest of its line goes on below, indented by 2. Laid out again, this text stays as it is.
 
 Examples:
   lincheck show examples/counter.lc
@@ -166,11 +167,12 @@ pub(crate) const CONDITIONS: &str = "Prints what has to be proved of a developme
 pub(crate) const CONDITIONS_ANSWER: &str = "\
 Reads DEV and prints a line for each of its conditions, and then `total` with their number:
   (condition K KIND POINT EDGE PATH NUM (vars V) (hyps F ..) (goal F))
-Where the goal of each follows from its hypotheses, in every state and for all numbers of its variables, the object is
+If the goal of each follows from its hypotheses, in every state and for all numbers of its variables, the object is
 linearizable. Lines are printed as they are made. A DEV that is no development is refused as by `check`.
 
-With --at K it prints condition K alone, over lines; where there is none, `refused 10 K`. With --only or --kind it prints the
-lines that have this POINT and this KIND, and `total` with their number.
+With --at K it prints condition K alone, over lines; if there is none, `refused 10 K`. With --explain it also shows, on standard
+error, the places of condition K in DEV, and its hypotheses by the names in DEV. With --only or --kind it prints the lines that have
+this POINT and this KIND, and `total` with their number.
 
 Examples:
   lincheck conditions examples/counter.lc
@@ -178,13 +180,13 @@ Examples:
   lincheck conditions examples/counter.lc --at 9
       prints condition 9 over lines
   lincheck conditions examples/counter.lc --only p1 --kind invariant
-      prints the conditions that the invariant holds behind the point p1";
+      prints the conditions that the invariant holds after the step at p1";
 
-pub(crate) const CONDITION_NUMBER: &str = "Print the condition of this number alone, over lines";
+pub(crate) const CONDITION_NUMBER: &str = "Print only the condition of this number, over lines";
 
-pub(crate) const CONDITION_POINT: &str = "Print those alone that stand at this point";
+pub(crate) const CONDITION_POINT: &str = "Print only those at this point";
 
-pub(crate) const CONDITION_KIND: &str = "Print those alone that are of this kind, as `stable`";
+pub(crate) const CONDITION_KIND: &str = "Print only those of this kind, as `stable`";
 
 pub(crate) const CHECK: &str = "Checks that a certificate proves a development";
 
@@ -192,7 +194,7 @@ pub(crate) const CERTIFICATE_FILE: &str =
     "A certificate: one form with a proof for each condition, by its number";
 
 pub(crate) const CHECK_ANSWER: &str = "\
-Reads DEV and, where it is a development, CERT. Prints `accepted NAME COUNT`, the name of the object and how many
+Reads DEV and, if it is a development, CERT. Prints `accepted NAME COUNT`, the name of the object and how many
 conditions it has, if CERT has a proof for each of them and each step holds. Then for every number of clients, however
 their steps come between each other, the history of their calls and returns is linearizable. Else it prints one line:
   refused 1 OFFSET      the byte there makes DEV no s-expressions
@@ -209,7 +211,8 @@ their steps come between each other, the history of their calls and returns is l
   refused 12 K STEP     the arithmetic of the step leaves 128 bits
 
 With --explain a refusal by the codes 9 to 12 is followed, on standard error, by what condition K asks, and by the hypotheses
-that stand at the step, numbered as proofs number them. So a proof is written by putting (open), and reading what stands there.
+at the step, numbered as proofs number them. So a proof is written by putting (open), and reading what is known there. With --all it
+is said of each condition that is not proved; if that is most of them, CERT may be that of another version of DEV: see `carry`.
 
 With more than one worker CERT is read whole before its proofs are checked. The answer is the same for every number.
 
@@ -217,7 +220,7 @@ Examples:
   lincheck check examples/counter.lc examples/counter.cert
       prints `accepted counter 59`
   lincheck check examples/counter.lc examples/counter.cert --workers 4
-      prints the same, sooner where there is much to check";
+      prints the same, sooner if there is much to check";
 
 pub(crate) const WORKERS: &str =
     "How many workers check proofs side by side, from 1 to 64; excludes --progress";
@@ -236,10 +239,10 @@ pub(crate) const PROGRESS: &str =
     "Say on standard error, by `condition K`, which condition is looked at";
 
 pub(crate) const PROVE_ALL: &str =
-    "Go on after a miss, and say on standard error of which conditions no proof was found";
+    "Go on after a miss, and say on standard error for which conditions no proof was found";
 
 pub(crate) const PROVE_ANSWER: &str = "\
-Reads DEV and, where it is a development, the hints in FILE. Looks for a proof of each condition, and prints a certificate
+Reads DEV and, if it is a development, the hints in FILE. Looks for a proof of each condition, and prints a certificate
 of all, which `check` accepts. Else it prints one line:
   refused CODE ..  DEV is no development, or FILE no hints: the codes 1 to 6, as of `check`
   not-found K      no proof of condition K was found
@@ -247,7 +250,8 @@ of all, which `check` accepts. Else it prints one line:
   large K          a number of the search for condition K leaves 128 bits
 `conditions` prints the conditions by their numbers. For condition K, FILE offers terms (use K T ..), a formula (cut K F) or
 a whole proof (by K P).
-With -o FILE after its words the certificate is put into FILE, which stays as it was if there is none, and `found NAME COUNT` is printed.
+With -o FILE after these words the certificate is put into FILE, and `found NAME COUNT` is printed; if there is none, FILE stays as
+it was.
 
 Examples:
   lincheck prove examples/counter.lc

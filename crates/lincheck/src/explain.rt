@@ -262,8 +262,8 @@ fn sought_told(
     let source = Source { path, bytes };
     let mut text = lints(alloc, source, &development)?;
     if let Some(number) = unfound {
-        let model = heard.model();
-        let said = unfound_explanation(alloc, source, &development, number, model)?;
+        let ending = heard.ending();
+        let said = unfound_explanation(alloc, source, &development, number, ending)?;
         text.extend_from_slice(&said)?;
     }
     if matches!(request, Request::Carry { .. }) {
@@ -334,9 +334,7 @@ fn point_told(alloc: Global, texts: &Texts, name: &str) -> Result<Option<Vec<u8>
         return Ok(None);
     }
     let names = point_names(alloc, &development)?;
-    let text = format!(in alloc;
-        "lincheck: no point is named {name}; the points are {names}\n"
-    )?;
+    let text = format!(in alloc; "lincheck: no point is named {name}; the points are {names}\n")?;
     Ok(Some(text.into_bytes()))
 }
 
@@ -416,8 +414,8 @@ fn misses_told(
         return Ok(None);
     };
     let hints = hints_from(alloc, &development, texts.text(1))?;
-    let model = heard.model();
-    let first = Missed { number, model };
+    let ending = heard.ending();
+    let first = Missed { number, ending };
     let full = asked.is_explained;
     let text = unfound_conditions(alloc, source, &development, &hints, first, full)?;
     Ok(Some(text))

@@ -2,7 +2,8 @@
 use lc_base::Fault;
 use lc_check::{Prover, prove_one};
 use lc_cond::Condition;
-use lc_find::{CounterModel, Progress};
+use lc_explain_cert::Ending;
+use lc_find::{Cause, CounterModel, Progress};
 use lc_kernel::Proof;
 use lc_table::Terms;
 use std::alloc::Global;
@@ -14,6 +15,8 @@ pub struct Heard {
     carried: Vec<u64>,
     /// The model in which the search for a proof ended, if it ended in one.
     model: Option<CounterModel>,
+    /// Why the search was given up, if it was.
+    cause: Option<Cause>,
 }
 
 impl Drop for Heard {
@@ -21,6 +24,7 @@ impl Drop for Heard {
         let Heard {
             carried: _,
             model: _,
+            cause: _,
         } = self;
     }
 }
@@ -31,6 +35,7 @@ impl Heard {
         Heard {
             carried: Vec::new(alloc),
             model: None,
+            cause: None,
         }
     }
 
@@ -45,9 +50,13 @@ impl Heard {
         count
     }
 
-    /// The model in which the search for a proof ended, if it ended in one.
-    pub fn model(&self) -> Option<&CounterModel> {
-        self.model.as_ref()
+    /// How the search for a proof ended that found none.
+    pub fn ending(&self) -> Ending<'_> {
+        match (&self.model, self.cause) {
+            (Some(model), _) => Ending::Model(model),
+            (None, Some(cause)) => Ending::GivenUp(cause),
+            (None, None) => Ending::Unknown,
+        }
     }
 }
 
@@ -73,6 +82,10 @@ impl<E: Write> Progress for Telling<'_, E> {
 
     fn ended(&mut self, model: CounterModel) {
         self.heard.model = Some(model);
+    }
+
+    fn given_up(&mut self, cause: Cause) {
+        self.heard.cause = Some(cause);
     }
 }
 
