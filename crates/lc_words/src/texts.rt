@@ -246,7 +246,7 @@ Reads DEV and, if it is a development, the hints in FILE. Looks for a proof of e
 of all, which `check` accepts. Else it prints one line:
   refused CODE ..  DEV is no development, or FILE no hints: the codes 1 to 6, as of `check`
   not-found K      no proof of condition K was found
-  budget K         1,000,000 steps were tried for condition K, or the certificate would be too large
+  budget K         the search for condition K was given up, or the certificate would be too large
   large K          a number of the search for condition K leaves 128 bits
 `conditions` prints the conditions by their numbers. For condition K, FILE offers terms (use K T ..), a formula (cut K F) or
 a whole proof (by K P).
@@ -276,7 +276,7 @@ on has the proof of that one, with the columns of the same names. For the others
 certificate of NEW, which `check` accepts. Else it prints one line:
   refused CODE ..  OLD or CERT is refused as by `check`, or NEW or FILE as by `prove`
   not-found K      no proof of condition K of NEW was found
-  budget K         1,000,000 steps were tried for condition K, or the certificate would be too large
+  budget K         the search for condition K was given up, or the certificate would be too large
   large K          a number of the search for condition K leaves 128 bits
 With --explain it also says on standard error how many proofs were carried and found, and how many conditions are left. With
 -o FILE the certificate is put into FILE, as by `prove`.

@@ -18,40 +18,34 @@ fn main(rt: HostRuntime) -> ExitCode {
         Ok(given) => given,
         Err(error) => return ExitCode::from(words_are_no_text(&rt, &error)),
     };
-    let status = if given.is_json {
-        run_with_objects(&rt, &given)
-    } else {
-        run(&rt, &given)
-    };
-    ExitCode::from(status)
-}
-
-/// Does what is asked for, and returns the status.
-fn run(rt: &HostRuntime, given: &Given) -> u8 {
     let words = given.words.as_slice();
-    let mut files = Disk::new(rt);
+    let mut files = Disk::new(&rt);
+    if given.is_json {
+        let mut out = Vec::new(rt.alloc());
+        let mut said = Vec::new(rt.alloc());
+        let status = execute(&rt, rt.alloc(), words, &mut files, &mut out, &mut said);
+        return ExitCode::from(put_objects(&rt, &given, status, &out, said));
+    }
     let mut err = rt.stderr();
     let Some(path) = &given.output else {
         let mut out = rt.stdout();
-        return execute(rt, rt.alloc(), words, &mut files, &mut out, &mut err);
+        let status = execute(&rt, rt.alloc(), words, &mut files, &mut out, &mut err);
+        return ExitCode::from(status);
     };
     let mut out = Vec::new(rt.alloc());
-    let status = execute(rt, rt.alloc(), words, &mut files, &mut out, &mut err);
-    put_answer(rt, path.as_str(), status, &out, &mut err)
+    let status = execute(&rt, rt.alloc(), words, &mut files, &mut out, &mut err);
+    ExitCode::from(put_answer(&rt, path.as_str(), status, &out, &mut err))
 }
 
-/// Does what is asked for, says on standard error by objects what is to be said, and returns the status. The answer is held whole.
-fn run_with_objects(rt: &HostRuntime, given: &Given) -> u8 {
-    let words = given.words.as_slice();
-    let mut files = Disk::new(rt);
-    let mut out = Vec::new(rt.alloc());
-    let mut said = Vec::new(rt.alloc());
-    let status = execute(rt, rt.alloc(), words, &mut files, &mut out, &mut said);
+/// Puts the answer of this status into the file that is named, or prints it; says on standard error by objects what is to be said; and
+/// returns the status.
+fn put_objects(rt: &HostRuntime, given: &Given, status: u8, out: &[u8], said: Vec<u8>) -> u8 {
+    let mut said = said;
     let status = match &given.output {
-        Some(path) => put_answer(rt, path.as_str(), status, &out, &mut said),
-        None => print_whole(rt, status, &out, &mut said),
+        Some(path) => put_answer(rt, path.as_str(), status, out, &mut said),
+        None => print_whole(rt, status, out, &mut said),
     };
-    write_objects(rt.alloc(), status, &out, &said, &mut rt.stderr());
+    write_objects(rt.alloc(), status, out, &said, &mut rt.stderr());
     status
 }
 

@@ -97,7 +97,8 @@ impl<'a> Sayings<'a> {
             line,
             marked: 0,
             notes: Vec::new(self.alloc),
-        })
+        })?;
+        Ok(())
     }
 
     /// Takes the next line.
@@ -116,7 +117,8 @@ impl<'a> Sayings<'a> {
         }
         if line.starts_with("  ") {
             if let Some(last) = self.all.last_mut() {
-                return last.notes.push(line);
+                last.notes.push(line)?;
+                return Ok(());
             }
         }
         self.begin(line, None)
