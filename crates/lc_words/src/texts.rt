@@ -172,7 +172,7 @@ linearizable. Lines are printed as they are made. A DEV that is no development i
 
 With --at K it prints condition K alone, over lines; if there is none, `refused 10 K`. With --explain it also shows, on standard
 error, the places of condition K in DEV, and its hypotheses by the names in DEV. With --only or --kind it prints the lines that have
-this POINT and this KIND, and `total` with their number.
+this POINT and this KIND, and `total` with their number; if DEV has no such point, `no-such-point`.
 
 Examples:
   lincheck conditions examples/counter.lc

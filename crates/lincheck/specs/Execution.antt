@@ -5,14 +5,13 @@ use Rattle.lc_reading.specs.Files.{Says}
 use Rattle.lc_spec_text.specs.Specifications.{first_reading}
 use Rattle.lc_seq.specs.Specification.{Specification}
 use Rattle.lc_cond_text.specs.ConditionText.{conditions_text}
-use Rattle.lc_listing.specs.Chosen.{chosen_text}
 use Rattle.lc_outline.specs.Development.{Development}
 use Rattle.lc_outline_print.specs.Developments.{development_printed}
 use Rattle.lc_outline_text.specs.Developments.{file_reading}
 use Rattle.lincheck.specs.Carry.{AnswersCarry, AnswersWith, IsUnreadCarry}
 use Rattle.lincheck.specs.Check.{AnswersDevelopment, AnswersCheck}
 use Rattle.lc_words.specs.Tasks.{Task, CheckFormula, JudgeHistory, ShowDevelopment, ShowLines, ListConditions, ListChosen, ShowCondition, CheckByWorkers, CheckCertificate, ProveDevelopment, ProveWithHints, DrawHistory, BeginDevelopment, PrintLibrary, CarryCertificate, CarryWithHints, RunPlan, FindOrder}
-use Rattle.lincheck.specs.Condition.{AnswersCondition, kind_of, point_of}
+use Rattle.lincheck.specs.Condition.{AnswersChosen, AnswersCondition, kind_of, point_of}
 use Rattle.lincheck.specs.Draw.{AnswersDraw}
 use Rattle.lincheck.specs.Formula.{AnswersFormula}
 use Rattle.lincheck.specs.Judge.{AnswersJudge}
@@ -36,7 +35,7 @@ AnswersTask bytes_at (ShowLines development) text status = OfFile (bytes_at deve
 AnswersTask bytes_at (ListConditions development) text status =
     OfFile (bytes_at development) (λ file. AnswersDevelopment conditions_text file text status)
 AnswersTask bytes_at (ListChosen development filter) text status =
-    OfFile (bytes_at development) (λ file. AnswersDevelopment (chosen_text (point_of filter) (kind_of filter)) file text status)
+    OfFile (bytes_at development) (λ file. AnswersChosen (point_of filter) (kind_of filter) file text status)
 AnswersTask bytes_at (ShowCondition development number) text status =
     OfFile (bytes_at development) (λ file. AnswersCondition number file text status)
 AnswersTask bytes_at (CheckCertificate development certificate) text status =

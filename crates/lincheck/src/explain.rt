@@ -315,24 +315,25 @@ fn point_names(alloc: Global, development: &Development) -> Result<String, OutOf
     Ok(text)
 }
 
-/// Whether a development has a point of this name, or this is the word that conditions at no point have.
-fn is_point_word(development: &Development, word: &str) -> bool {
-    for point in &development.parts().object.parts().points {
-        if point.name.as_str() == word {
-            return true;
-        }
-    }
-    word == "-"
-}
-
-/// What is said of conditions that are chosen by a point, if the development has none of this name.
-fn point_told(alloc: Global, texts: &Texts, name: &str) -> Result<Option<Vec<u8>>, OutOfMemory> {
+/// What is said if conditions are asked for of a point that the development does not have.
+fn no_point_told(
+    alloc: Global,
+    request: Request<'_>,
+    texts: &Texts,
+) -> Result<Option<Vec<u8>>, OutOfMemory> {
+    let Request::Conditions {
+        chosen: Chosen::Those {
+            point: Some(name),
+            ..
+        },
+        ..
+    } = request
+    else {
+        return Ok(None);
+    };
     let Some(development) = development_in(alloc, texts.text(0))? else {
         return Ok(None);
     };
-    if is_point_word(&development, name) {
-        return Ok(None);
-    }
     let names = point_names(alloc, &development)?;
     let text = format!(in alloc; "lincheck: no point is named {name}; the points are {names}\n")?;
     Ok(Some(text.into_bytes()))
@@ -354,13 +355,6 @@ fn answered_told(
             chosen: Chosen::Number(number),
             ..
         } => condition_told(alloc, request, texts, number),
-        Request::Conditions {
-            chosen: Chosen::Those {
-                point: Some(point),
-                ..
-            },
-            ..
-        } => point_told(alloc, texts, point),
         _ => Ok(None),
     }
 }
@@ -377,6 +371,7 @@ fn why_told(
         Some(Why::Refused(refusal)) => refused_told(alloc, request, texts, &refusal),
         Some(Why::Unfound(number)) => sought_told(alloc, request, texts, Some(number), heard),
         Some(Why::Unordered(count)) => unordered_told(alloc, request, texts, count),
+        Some(Why::NoPoint) => no_point_told(alloc, request, texts),
         None => answered_told(alloc, request, texts, heard),
     }
 }
