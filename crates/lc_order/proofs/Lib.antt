@@ -12,3 +12,4 @@ mod Stores
 mod Starts
 mod Drafting
 mod Listing
+mod Stepping

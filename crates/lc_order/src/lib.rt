@@ -8,7 +8,9 @@ mod draft;
 mod expanding;
 mod finding;
 pub mod laws;
+mod natives;
 mod nodes;
+mod open;
 mod refuting;
 mod roster;
 mod searchable;
@@ -17,5 +19,7 @@ mod written;
 
 pub use deciding::{Decision, decide};
 pub use draft::TextDraft;
+pub use natives::EndUndo;
+pub use open::{Replies, next_replies};
 pub use refuting::{Refutation, refute};
 pub use searchable::{Listed, Searchable, Stepped};
