@@ -158,3 +158,34 @@ sheet_text width height =
     let end = codes "\"" in
     sym (ap (λ l. codes "<rect class=\"sheet\" width=\"" ++ l)
     (spread (decimal width) end (codes " height=\"" ++ ((decimal height ++ end) ++ [])) (codes "/>\n") ∙ ap (λ l. decimal width ++ (codes "\" height=\"" ++ l)) (spread (decimal height) end [] (codes "/>\n"))))
+
+-- the line round a bar, and what is after it
+around : (ends top begins close behind : List ℕ) → (codes "M" ++ ends ++ codes " " ++ top ++ codes "H" ++ begins ++ codes "v" ++ decimal 24 ++ codes "H" ++ ends ++ close) ++ behind
+    ≡ codes "M" ++ (ends ++ (codes " " ++ (top ++ (codes "H" ++ (begins ++ (codes "v" ++ (decimal 24 ++ (codes "H" ++ (ends ++ (close ++ behind))))))))))
+around ends top begins close behind = simp append_assoc
+
+bar_path_text : (class close : List ℕ) (begins ends top : ℕ)
+    → codes "<path class=\"" ++ (class ++ (codes "\" d=\"M" ++ (decimal ends ++ (codes " " ++ (decimal top ++ (codes "H" ++ (decimal begins ++ (codes "v" ++ (decimal 24 ++ (codes "H" ++ (decimal ends ++ (close ++ codes "\"/>\n"))))))))))))
+    ≡ element_text (bar_path class close begins ends top)
+bar_path_text class close begins ends top =
+    let end = codes "\"" in
+    let line = codes "M" ++ decimal ends ++ codes " " ++ decimal top ++ codes "H" ++ decimal begins ++ codes "v" ++ decimal 24 ++ codes "H" ++ decimal ends ++ close in
+    sym (ap (λ l. codes "<path class=\"" ++ l)
+    (spread class end (codes " d=\"" ++ ((line ++ end) ++ [])) (codes "/>\n")
+    ∙ ap (λ l. class ++ (codes "\" d=\"" ++ l)) (spread line end [] (codes "/>\n") ∙ around (decimal ends) (decimal top) (decimal begins) close (codes "\"/>\n"))))
+
+-- its beginning, its middle and its end, one after another
+in_three : (before class ends top begins close : List ℕ)
+    → ((before ++ (codes "<path class=\"" ++ (class ++ (codes "\" d=\"M" ++ (ends ++ (codes " " ++ top)))))) ++ (codes "H" ++ (begins ++ (codes "v" ++ decimal 24)))) ++ (codes "H" ++ (ends ++ (close ++ codes "\"/>\n")))
+    ≡ before
+    ++ (codes "<path class=\"" ++ (class ++ (codes "\" d=\"M" ++ (ends ++ (codes " " ++ (top ++ (codes "H" ++ (begins ++ (codes "v" ++ (decimal 24 ++ (codes "H" ++ (ends ++ (close ++ codes "\"/>\n")))))))))))))
+in_three before class ends top begins close = simp append_assoc
+
+pub bar_path_written : (class close : List ℕ) (begins ends top : ℕ) (before first second after : List ℕ)
+    → first ≡ before ++ (codes "<path class=\"" ++ (class ++ (codes "\" d=\"M" ++ (decimal ends ++ (codes " " ++ decimal top)))))
+    → second ≡ first ++ (codes "H" ++ (decimal begins ++ (codes "v" ++ decimal 24)))
+    → after ≡ second ++ (codes "H" ++ (decimal ends ++ (close ++ codes "\"/>\n")))
+    → after ≡ before ++ element_text (bar_path class close begins ends top)
+bar_path_written class close begins ends top before first second after one two three =
+    three ∙ (ap (λ l. l ++ (codes "H" ++ (decimal ends ++ (close ++ codes "\"/>\n")))) (two ∙ ap (λ l. l ++ (codes "H" ++ (decimal begins ++ (codes "v" ++ decimal 24)))) one)
+    ∙ (in_three before class (decimal ends) (decimal top) (decimal begins) close ∙ ap (λ l. before ++ l) (bar_path_text class close begins ends top)))

@@ -203,10 +203,9 @@ fn write_bar_path(
     ensures text { OnOk result (string_bytes out.new ≡ string_bytes out.old ++ element_text (bar_path class.now close.now begins ends top)) }
     ensures formed { OnOk result (IsWellFormed (bar_path class.now close.now begins ends top)) }
 {
-    write!(
-        out,
-        "<path class=\"{class}\" d=\"M{ends} {top}H{begins}v{BAR}H{ends}{close}\"/>\n"
-    )?;
+    write!(out, "<path class=\"{class}\" d=\"M{ends} {top}")?;
+    write!(out, "H{begins}v{BAR}")?;
+    write!(out, "H{ends}{close}\"/>\n")?;
     Ok(())
 }
 
