@@ -4,7 +4,7 @@ use Rattle.std.proofs.lemmas.List.{map_more, map_push}
 use Rattle.std.specs.List.{flat_map}
 use Rattle.std.specs.Fmt.{decimal}
 use Rattle.lc_draw.specs.Elements.{Element, AreWellFormed, HasWritten, IsWellFormed, are_plain, element_text, elements_text}
-use Rattle.lc_draw.specs.Shapes.{Mark, bar_label, bar_line, caption_element, class_of, close_of, lane_line, lane_name, mark_line, mark_place, order_element, point_text, sheet_element, style_element}
+use Rattle.lc_draw.specs.Shapes.{Mark, bar_label, bar_path, caption_element, lane_line, lane_name, mark_line, mark_place, order_element, point_text, sheet_element, style_element}
 use Rattle.lc_draw.proofs.Plainness.{plain_append, plain_decimal}
 
 flat_map-append : {A B : Type 0} (f : A → List B) (xs ys : List A) → flat_map f (xs ++ ys) ≡ flat_map f xs ++ flat_map f ys
@@ -42,14 +42,6 @@ one_written f xs x before mid after h k =
     subst (λ es. HasWritten es before after) (sym same) (written_more (flat_map f xs) (f x) before mid after h k)
 
 -- ---- that they are well-formed
-
-plain_class : (f : Bool) → are_plain (class_of f) ≡ true
-plain_class true = refl
-plain_class false = refl
-
-plain_close : (z : Bool) → are_plain (close_of z) ≡ true
-plain_close true = refl
-plain_close false = refl
 
 -- texts one after another
 abbrev joined : List ℕ → List (List ℕ) → List ℕ
@@ -94,16 +86,16 @@ lane_line_formed middle until m n = record {
   text = tt;
 }
 
-pub bar_line_formed : (f z : Bool) (begins ends top : ℕ) → begins < 2 ^ 64 → ends < 2 ^ 64 → top < 2 ^ 64 → IsWellFormed (bar_line f z begins ends top)
-bar_line_formed f z begins ends top b e t = record {
+pub bar_path_formed : (class close : List ℕ) (begins ends top : ℕ) → are_plain class ≡ true → are_plain close ≡ true → begins < 2 ^ 64 → ends < 2 ^ 64 → top < 2 ^ 64 → IsWellFormed (bar_path class close begins ends top)
+bar_path_formed class close begins ends top k z b e t = record {
   name = refl;
   attributes = (
     refl,
-    plain_class f,
+    k,
     (
       refl,
-      plain_joined (codes "M") (decimal ends ∷ codes " " ∷ decimal top ∷ codes "H" ∷ decimal begins ∷ codes "v" ∷ decimal 24 ∷ codes "H" ∷ decimal ends ∷ close_of z ∷ []) refl
-          (plain_decimal ends e, (refl, (plain_decimal top t, (refl, (plain_decimal begins b, (refl, (plain_decimal 24 (omega arith), (refl, (plain_decimal ends e, (plain_close z, tt)))))))))),
+      plain_joined (codes "M") (decimal ends ∷ codes " " ∷ decimal top ∷ codes "H" ∷ decimal begins ∷ codes "v" ∷ decimal 24 ∷ codes "H" ∷ decimal ends ∷ close ∷ []) refl
+          (plain_decimal ends e, (refl, (plain_decimal top t, (refl, (plain_decimal begins b, (refl, (plain_decimal 24 (omega arith), (refl, (plain_decimal ends e, (z, tt)))))))))),
       tt,
     ),
   );
@@ -168,16 +160,32 @@ sheet_text width height =
     (spread (decimal width) end (codes " height=\"" ++ ((decimal height ++ end) ++ [])) (codes "/>\n") ∙ ap (λ l. decimal width ++ (codes "\" height=\"" ++ l)) (spread (decimal height) end [] (codes "/>\n"))))
 
 -- the line round a bar, and what is after it
-around : (ends top begins closed behind : List ℕ) → (codes "M" ++ ends ++ codes " " ++ top ++ codes "H" ++ begins ++ codes "v" ++ decimal 24 ++ codes "H" ++ ends ++ closed) ++ behind
-    ≡ codes "M" ++ (ends ++ (codes " " ++ (top ++ (codes "H" ++ (begins ++ (codes "v" ++ (decimal 24 ++ (codes "H" ++ (ends ++ (closed ++ behind))))))))))
-around ends top begins closed behind = simp append_assoc
+around : (ends top begins close behind : List ℕ) → (codes "M" ++ ends ++ codes " " ++ top ++ codes "H" ++ begins ++ codes "v" ++ decimal 24 ++ codes "H" ++ ends ++ close) ++ behind
+    ≡ codes "M" ++ (ends ++ (codes " " ++ (top ++ (codes "H" ++ (begins ++ (codes "v" ++ (decimal 24 ++ (codes "H" ++ (ends ++ (close ++ behind))))))))))
+around ends top begins close behind = simp append_assoc
 
-pub bar_line_text : (f z : Bool) (begins ends top : ℕ)
-    → codes "<path class=\"" ++ (class_of f ++ (codes "\" d=\"M" ++ (decimal ends ++ (codes " " ++ (decimal top ++ (codes "H" ++ (decimal begins ++ (codes "v" ++ (decimal 24 ++ (codes "H" ++ (decimal ends ++ (close_of z ++ codes "\"/>\n"))))))))))))
-    ≡ element_text (bar_line f z begins ends top)
-bar_line_text f z begins ends top =
+bar_path_text : (class close : List ℕ) (begins ends top : ℕ)
+    → codes "<path class=\"" ++ (class ++ (codes "\" d=\"M" ++ (decimal ends ++ (codes " " ++ (decimal top ++ (codes "H" ++ (decimal begins ++ (codes "v" ++ (decimal 24 ++ (codes "H" ++ (decimal ends ++ (close ++ codes "\"/>\n"))))))))))))
+    ≡ element_text (bar_path class close begins ends top)
+bar_path_text class close begins ends top =
     let end = codes "\"" in
-    let line = codes "M" ++ decimal ends ++ codes " " ++ decimal top ++ codes "H" ++ decimal begins ++ codes "v" ++ decimal 24 ++ codes "H" ++ decimal ends ++ close_of z in
+    let line = codes "M" ++ decimal ends ++ codes " " ++ decimal top ++ codes "H" ++ decimal begins ++ codes "v" ++ decimal 24 ++ codes "H" ++ decimal ends ++ close in
     sym (ap (λ l. codes "<path class=\"" ++ l)
-    (spread (class_of f) end (codes " d=\"" ++ ((line ++ end) ++ [])) (codes "/>\n")
-    ∙ ap (λ l. class_of f ++ (codes "\" d=\"" ++ l)) (spread line end [] (codes "/>\n") ∙ around (decimal ends) (decimal top) (decimal begins) (close_of z) (codes "\"/>\n"))))
+    (spread class end (codes " d=\"" ++ ((line ++ end) ++ [])) (codes "/>\n")
+    ∙ ap (λ l. class ++ (codes "\" d=\"" ++ l)) (spread line end [] (codes "/>\n") ∙ around (decimal ends) (decimal top) (decimal begins) close (codes "\"/>\n"))))
+
+-- its beginning, its middle and its end, one after another
+in_three : (before class ends top begins close : List ℕ)
+    → ((before ++ (codes "<path class=\"" ++ (class ++ (codes "\" d=\"M" ++ (ends ++ (codes " " ++ top)))))) ++ (codes "H" ++ (begins ++ (codes "v" ++ decimal 24)))) ++ (codes "H" ++ (ends ++ (close ++ codes "\"/>\n")))
+    ≡ before
+    ++ (codes "<path class=\"" ++ (class ++ (codes "\" d=\"M" ++ (ends ++ (codes " " ++ (top ++ (codes "H" ++ (begins ++ (codes "v" ++ (decimal 24 ++ (codes "H" ++ (ends ++ (close ++ codes "\"/>\n")))))))))))))
+in_three before class ends top begins close = simp append_assoc
+
+pub bar_path_written : (class close : List ℕ) (begins ends top : ℕ) (before first second after : List ℕ)
+    → first ≡ before ++ (codes "<path class=\"" ++ (class ++ (codes "\" d=\"M" ++ (decimal ends ++ (codes " " ++ decimal top)))))
+    → second ≡ first ++ (codes "H" ++ (decimal begins ++ (codes "v" ++ decimal 24)))
+    → after ≡ second ++ (codes "H" ++ (decimal ends ++ (close ++ codes "\"/>\n")))
+    → after ≡ before ++ element_text (bar_path class close begins ends top)
+bar_path_written class close begins ends top before first second after one two three =
+    three ∙ (ap (λ l. l ++ (codes "H" ++ (decimal ends ++ (close ++ codes "\"/>\n")))) (two ∙ ap (λ l. l ++ (codes "H" ++ (decimal begins ++ (codes "v" ++ decimal 24)))) one)
+    ∙ (in_three before class (decimal ends) (decimal top) (decimal begins) close ∙ ap (λ l. before ++ l) (bar_path_text class close begins ends top)))

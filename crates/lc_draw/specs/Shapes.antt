@@ -37,14 +37,17 @@ class_of is_at_fault = if is_at_fault then codes "fault" else codes "bar"
 abbrev pub close_of : Bool → List ℕ
 close_of is_closed = if is_closed then codes "z" else []
 
-abbrev pub bar_line : Bool → Bool → (begins ends top : ℕ) → Element
-bar_line is_at_fault is_closed begins ends top = record {
+abbrev pub bar_path : (class close : List ℕ) → (begins ends top : ℕ) → Element
+bar_path class close begins ends top = record {
   name = codes "path";
-  attributes = (codes "class", class_of is_at_fault)
-      ∷ (codes "d", codes "M" ++ decimal ends ++ codes " " ++ decimal top ++ codes "H" ++ decimal begins ++ codes "v" ++ decimal 24 ++ codes "H" ++ decimal ends ++ close_of is_closed)
+  attributes = (codes "class", class)
+      ∷ (codes "d", codes "M" ++ decimal ends ++ codes " " ++ decimal top ++ codes "H" ++ decimal begins ++ codes "v" ++ decimal 24 ++ codes "H" ++ decimal ends ++ close)
       ∷ [];
   text = None;
 }
+
+abbrev pub bar_line : Bool → Bool → (begins ends top : ℕ) → Element
+bar_line is_at_fault is_closed = bar_path (class_of is_at_fault) (close_of is_closed)
 
 abbrev pub bar_label : (from under : ℕ) → List ℕ → Element
 bar_label from under text = record { name = codes "text"; attributes = (codes "x", decimal from) ∷ (codes "y", decimal under) ∷ []; text = Some text }

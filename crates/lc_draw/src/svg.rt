@@ -4,7 +4,7 @@ ghost use Rattle.std.specs.List.{flat_map};
 ghost use Rattle.lc_draw.specs.Drawings.{opening_text};
 ghost use Rattle.lc_draw.specs.Elements.{HasWritten, IsWellFormed, are_plain, element_text};
 ghost use Rattle.lc_draw.specs.Shapes as S;
-ghost use Rattle.lc_draw.specs.Shapes.{bar_elements, bar_label, bar_line, caption_element, class_of, close_of, lane_elements, lane_line, lane_name, mark_elements, mark_line, mark_place, order_element, point_text, sheet_element, style_element};
+ghost use Rattle.lc_draw.specs.Shapes.{bar_elements, bar_label, bar_line, bar_path, caption_element, class_of, close_of, lane_elements, lane_line, lane_name, mark_elements, mark_line, mark_place, order_element, point_text, sheet_element, style_element};
 
 use crate::picture::{Judged, is_at_fault};
 use crate::places::{Bar, Mark};
@@ -176,16 +176,37 @@ pub(crate) fn push_lanes(
 }
 
 fn class_of(is_at_fault: bool) -> &'static str
-    ensures { result.now ≡ class_of is_at_fault }
+    ensures is { result.now ≡ class_of is_at_fault }
+    ensures plain { are_plain result.now ≡ true }
 {
     if is_at_fault { "fault" } else { "bar" }
 }
 
 // A bar that is open goes round three sides.
 fn close_of(is_closed: bool) -> &'static str
-    ensures { result.now ≡ close_of is_closed }
+    ensures is { result.now ≡ close_of is_closed }
+    ensures plain { are_plain result.now ≡ true }
 {
     if is_closed { "z" } else { "" }
+}
+
+fn write_bar_path(
+    out: &mut String,
+    class: &str,
+    close: &str,
+    begins: u64,
+    ends: u64,
+    top: u64,
+) -> Result<(), OutOfMemory>
+    requires class { are_plain class.now ≡ true }
+    requires close { are_plain close.now ≡ true }
+    ensures text { OnOk result (string_bytes out.new ≡ string_bytes out.old ++ element_text (bar_path class.now close.now begins ends top)) }
+    ensures formed { OnOk result (IsWellFormed (bar_path class.now close.now begins ends top)) }
+{
+    write!(out, "<path class=\"{class}\" d=\"M{ends} {top}")?;
+    write!(out, "H{begins}v{BAR}")?;
+    write!(out, "H{ends}{close}\"/>\n")?;
+    Ok(())
 }
 
 fn write_bar_line(
@@ -200,11 +221,8 @@ fn write_bar_line(
     ensures formed { OnOk result (IsWellFormed (bar_line is_at_fault is_closed begins ends top)) }
 {
     let class = class_of(is_at_fault);
-    let closed = close_of(is_closed);
-    write!(
-        out,
-        "<path class=\"{class}\" d=\"M{ends} {top}H{begins}v{BAR}H{ends}{closed}\"/>\n"
-    )?;
+    let close = close_of(is_closed);
+    write_bar_path(out, class, close, begins, ends, top)?;
     Ok(())
 }
 
