@@ -8,4 +8,4 @@ use Rattle.lc_listing.proofs.words.is_named.Given as goal
 -- the points that are left decide the answer
 abbrev pub invariant-loop-point : goal.invariant-loop-point
 invariant-loop-point l =
-    list_any (λ other. bytes_eq other l.name.now) (names_of (map point_of l.points)) ≡ list_any (λ other. bytes_eq other l.name.now) (names_of (map point_of (drop l.point-index l.points)))
+    list_any (λ other. bytes_eq other l.name) (names_of (map point_of l.points)) ≡ list_any (λ other. bytes_eq other l.name) (names_of (map point_of (drop l.point-index l.points)))
