@@ -18,7 +18,7 @@ pub loop-script-preserved : goal.loop-script-preserved
 loop-script-preserved g c =
     let so = c.loop-script.invariant in
     let m = c.loop-script.member in
-    let next = c.in_ok-member.field-0 in
+    let next = c.in_ok-member.member in
     let told = c.in_ok-member.ensures in (
       told.same ∙ so.0,
       λ end after rest.

@@ -10,7 +10,7 @@ use Rattle.lc_crew.proofs.Crossing.{taken-send}
 use Rattle.lc_crew.proofs.phase.fn.play_phase.scope.Goals as goal
 
 pub spawn_with-requires-send-F : goal.spawn_with-requires-send-F
-spawn_with-requires-send-F g c κs within = param_send 1 _ (arg_send _ no _ (taken-send g.row.J g.J.Ledger g.row.R _ _ _ _ (let h = g.met.R in let k = c.requires-raw in let w = c.well_formed in ?)))
+spawn_with-requires-send-F g c κs within = param_send 2 _ (arg_send _ no _ (taken-send g.row.J g.J.Ledger g.row.R _ _ _ _ c.requires-raw.1.1.1.0))
 
 pub loop-member-preserved : goal.loop-member-preserved
 loop-member-preserved g c =
@@ -21,7 +21,7 @@ loop-member-preserved g c =
     let thread = c.in-Ok.thread in
     let left = subst (All made) c.in-Some.ensures.steps.0 so.left in
     record {
-      threads = subst (All (IsToMake plan (n + 1))) (sym c.in_ok-push.ensures.items)
+      threads = subst (All (IsToMake plan (n + 1))) (sym c.in_ok-push-in-Ok.ensures.items)
           (All-push (IsToMake plan (n + 1)) c.loop-member.threads.items thread so.threads
           (ap (λ (p : MakesTo). p.plan.value) c.in-Ok.ensures.ok ∙ c.of.ensures, ap (λ (p : MakesTo). p.phases) c.in-Ok.ensures.ok));
       left = All-tail made c.in-Some.member c.next.new.self.rest.items left;
