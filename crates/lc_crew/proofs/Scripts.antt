@@ -44,14 +44,14 @@ pub all-played : (seen items : List Calls) (i : ℕ) (c : ℕ) (now : List Label
 all-played seen items i c now same past =
     subst (λ its. HasPlayed None (map calls_of (drop i its)) c now now) same (subst (λ ks. HasPlayed None (map calls_of ks) c now now) (sym (drop_all i seen past)) refl)
 
--- ---- calls behind others
+-- ---- calls after others
 
--- what is played behind calls that all returned
+-- what is played after calls that all returned
 more-played : (end : Option Halt) (ks ms : List S.Calls) (c : ℕ) (x y z : List Label) → HasPlayed None ks c x y → HasPlayed end ms c y z → HasPlayed end (ks ++ ms) c x z
 more-played end [] ms c x y z same rest = subst (λ l. HasPlayed end ms c l z) same rest
 more-played end (k ∷ ks) ms c x y z (mid, made, later) rest = step-first end k (ks ++ ms) c x mid z made (more-played end ks ms c mid y z later rest)
 
--- behind one that did not, nothing is
+-- after one that did not return nothing is played
 halted-early : (h : Halt) (ks ms : List S.Calls) (c : ℕ) (x y : List Label) → HasPlayed (Some h) ks c x y → HasPlayed (Some h) (ks ++ ms) c x y
 halted-early h [] ms c x y never = absurd never
 halted-early h (k ∷ ks) ms c x y (inl made) = inl made
@@ -102,7 +102,7 @@ none-played : (a : Option Halt) (c : ℕ) (now : List Label) → HasPlayedFrom a
 none-played None c now = refl
 none-played (Some h) c now = (refl, refl)
 
--- behind the last one nothing is left
+-- after the last one nothing is left
 pub phase-played : (seen : List Script) (i : ℕ) (a : Option Halt) (c : ℕ) (now : List Label) → length seen ≤ i → HasPlayedFrom a a (calls_in c (map script_of (drop i seen))) c now now
 phase-played seen i a c now past = subst (λ l. HasPlayedFrom a a (calls_in c (map script_of l)) c now now) (sym (drop_all i seen past)) (none-played a c now)
 

@@ -4,7 +4,7 @@ use Rattle.lc_crew.specs.Members.{HasMadeAll}
 use Rattle.lc_crew.specs.Phases.{phases_to, IsToMake}
 use Rattle.lc_crew.proofs.phase.fn.play_phase.scope.Given as goal
 
--- each thread promises what its client makes, and who is left has made its calls of the phases before
+-- each thread promises what its client makes, and each remaining client has made its calls of the earlier phases
 abbrev pub invariant-loop-member : goal.invariant-loop-member
 invariant-loop-member g l = record {
   threads : All (IsToMake l.plan.now (l.number + 1)) l.threads.items;
