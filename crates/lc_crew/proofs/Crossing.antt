@@ -1,6 +1,6 @@
 -- What a thread of a client takes with it may cross threads.
 use denote.Param.{param}
-use denote.Param.Send.{IsSend, IsSync, param_sync, sendable, shr_send}
+use denote.Param.Send.{IsSend, IsSync, sendable, shr_send}
 use denote.Param.SendFields.{declared_send}
 use denote.RattleType.{RattleType}
 use denote.Ref.{NamedLft, ShrRef}
@@ -36,10 +36,10 @@ module _ (J : RattleType) (l : Ghosts J.Denot) where
   abbrev taken : RattleType → (a b c : NamedLft) → List RattleType
   taken R a b c = ShrRef a.mir a.lft (param 1 R) ∷ ShrRef b.mir b.lft (Runner.the_row (param 0 J) l) ∷ Member.the_row (param 0 J) l ∷ ShrRef c.mir c.lft Plan.the_row ∷ usize ∷ []
 
-  pub taken-send : (R : RattleType) (name : List ℕ) (a b c : NamedLft) → IsSync R → IsSend (TupleAt name (taken R a b c))
+  pub taken-send : (R : RattleType) (name : List ℕ) (a b c : NamedLft) → IsSync (param 1 R) → IsSend (TupleAt name (taken R a b c))
   taken-send R name a b c sync =
       let client : IsSend (Member.the_row (param 0 J) l) = Member-send (param 0 J) l in
-      let runtime : IsSend (ShrRef a.mir a.lft (param 1 R)) = shr_send a.mir a.lft (param 1 R) (param_sync 1 R sync) in
+      let runtime : IsSend (ShrRef a.mir a.lft (param 1 R)) = shr_send a.mir a.lft (param 1 R) sync in
       let runner : IsSend (ShrRef b.mir b.lft (Runner.the_row (param 0 J) l)) = shr_send b.mir b.lft (Runner.the_row (param 0 J) l) (Runner-sync (param 0 J) l) in
       let plan : IsSend (ShrRef c.mir c.lft Plan.the_row) = shr_send c.mir c.lft Plan.the_row Plan-sync in
       declared_send (type_at name (taken R a b c)) (search (runtime, sendable), (search (runner, sendable), (search (client, sendable), (search (plan, sendable), (search sendable, tt)))))

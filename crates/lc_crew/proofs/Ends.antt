@@ -1,7 +1,8 @@
 -- How clients came to their ends, beside their seats.
-use Rattle.std.proofs.Common.{◌≡◌, ℕ, zero, suc, ◌+◌, ◌<◌, ◌≤◌, true, List, [], ◌∷◌, ◌++◌, None, length, map, sym, ap, subst, ◌∙◌, arith}
+use Rattle.std.proofs.Common.{◌≡◌, ℕ, zero, suc, ◌+◌, ◌<◌, ◌≤◌, true, false, List, [], ◌∷◌, ◌++◌, None, Result, Ok, Err, Vec, get_or, length, map, sym, ap, subst, ◌∙◌, arith}
 use Rattle.std.proofs.lemmas.List.{length-map, take_all}
-use Rattle.std.specs.Prelude.{All, IfSome, slice_get}
+use Rattle.std.specs.Prelude.{All, IfOk, IfSome, slice_get}
+use Rattle.std.specs.declared.alloc.Global.{Global}
 use Rattle.lc_run.specs.Labels.{is_unfinished, labels_by}
 use Rattle.lc_run.specs.LabelView.{labels_of}
 use Rattle.lc_run.specs.Ordering.{order_entries}
@@ -13,19 +14,22 @@ use Rattle.lc_hist.specs.History.{Linearizes}
 use Rattle.lc_machine.specs.World.{World}
 use Rattle.lc_outline.specs.Development.{Development}
 use Rattle.lc_plan.specs.Plans.{Script}
-use Rattle.lc_plan.specs.View.{plan_of, scripts_of}
+use Rattle.lc_plan.specs.View.{plan_of, script_of, scripts_of}
 use Rattle.lc_plan.specs.declared.plan.Plan.{Plan}
+use Rattle.lc_plan.specs.declared.plan.Script as Code
 use Rattle.lc_seq.specs.TextStep.{text_step, start_of}
 use Rattle.lc_sound.specs.Instrumented.{Label, IsRun, history}
 use Rattle.lc_sound.specs.Order.{order}
 use Rattle.lc_crew.specs.Halts.{fits}
-use Rattle.lc_crew.specs.Members.{AreEndsOf, HasMadeAll, IsEndOf, client_of, halt_of, made_by}
-use Rattle.lc_crew.specs.Phases.{phases_to}
-use Rattle.lc_crew.specs.Playing.{HasPlayed, planned}
+use Rattle.lc_crew.specs.Members.{AreEndsOf, HasMadeAll, IsEndOf, Plays, client_of, halt_of, made_by}
+use Rattle.lc_crew.specs.Phases.{has_script, phases_to}
+use Rattle.lc_crew.specs.Playing.{HasPlayed, HasPlayedFrom, calls_in, planned}
 use Rattle.lc_crew.specs.Ran.{AreAllEnded, AreNumberedFrom, EndsSo, IsRunOf}
 use Rattle.lc_crew.specs.declared.ended.Ended.{Ended}
 use Rattle.lc_crew.specs.declared.member.Member.{Member}
 use Rattle.lc_crew.specs.declared.plan.Ran.{Ran}
+use Rattle.lc_crew.specs.declared.stop.Stop.{Stop}
+use Rattle.lc_crew.proofs.Scripts.{rested, went-on}
 
 -- what holds of the element at each place holds of all
 pub all-of : {A : Type 0} (P : A → Type 0) (xs : List A) → ((k : ℕ) → k < length xs → IfSome (slice_get xs k) P) → All P xs
@@ -48,6 +52,20 @@ fresh m none nothing = subst (λ o. HasPlayed o [] (client_of m) [] (made_by m))
 -- the first n phases are all, if there are no more than n
 pub all-phases : (plan : Plan) (n : ℕ) → length plan.phases.items ≤ n → phases_to plan n ≡ (plan_of plan).phases
 all-phases plan n past = take_all n (map scripts_of plan.phases.items) (let same = length-map plan.phases.items scripts_of in omega arith)
+
+-- a client that has made its calls of the first n phases, and then those of the next one
+pub next-made : {J : Type 0} (plan : Plan) (n : ℕ) (phase : Vec Code.Script Global) (scripts : List Code.Script) (m : Member J) (r : Result (Member J) Stop) → n < length plan.phases.items → phase ≡ get_or plan.phases.items n phase
+    → scripts ≡ phase.items → HasMadeAll (phases_to plan n) m → IfOk r (Plays (calls_in (client_of m) (map script_of scripts)) m) → IfOk r (λ after. client_of after ≡ client_of m) → IfOk r (HasMadeAll (phases_to plan (n + 1)))
+next-made plan n phase scripts m (Err e) below is same made plays client = tt
+next-made plan n phase scripts m (Ok x) below is same made plays client =
+    went-on plan.phases.items n phase (client_of m) (client_of x) (halt_of m) (halt_of x) (made_by m) (made_by x) below is client made
+    (subst (λ l. HasPlayedFrom (halt_of m) (halt_of x) (calls_in (client_of m) (map script_of l)) (client_of m) (made_by m) (made_by x)) same plays)
+
+-- or that makes none of it
+pub rest-made : {J : Type 0} (plan : Plan) (n : ℕ) (phase : Vec Code.Script Global) (scripts : List Code.Script) (m : Member J) → n < length plan.phases.items → phase ≡ get_or plan.phases.items n phase
+    → scripts ≡ phase.items → has_script (client_of m) (map script_of scripts) ≡ false → HasMadeAll (phases_to plan n) m → HasMadeAll (phases_to plan (n + 1)) m
+rest-made plan n phase scripts m below is same none made =
+    rested plan.phases.items n phase (client_of m) (halt_of m) (made_by m) below is (subst (λ l. has_script (client_of m) (map script_of l) ≡ false) same none) made
 
 module _ {J : Type 0} (phases : List (List Script)) where
   -- the end of a client that has made its calls

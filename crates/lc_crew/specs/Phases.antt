@@ -11,10 +11,10 @@ use Rattle.lc_crew.specs.declared.phase.MakesTo.{MakesTo}
 abbrev pub has_script : ℕ → List Script → Bool
 has_script c phase = list_any (λ s. s.client == c) phase
 
--- the first phases of a plan
+-- the first n phases of a plan
 abbrev pub phases_to : Plan → ℕ → List (List Script)
 phases_to plan n = take n (plan_of plan).phases
 
--- a thread promises what its client makes of so many phases of the plan
+-- a thread promises what its client makes of the first n phases of the plan
 abbrev pub IsToMake : {T : Type 0} → Plan → ℕ → PromisedHandle T MakesTo → Type 0
 IsToMake plan n thread = (thread.promise.plan.value ≡ plan) × (thread.promise.phases ≡ n)

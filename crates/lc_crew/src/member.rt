@@ -163,9 +163,10 @@ impl<J: Ledger> Member<J> {
     {
         let mut member = self;
         for script in phase {
-            if script.client == member.client() {
-                member = member.plays(rt, runner, script)?;
+            if script.client != member.client() {
+                continue;
             }
+            member = member.plays(rt, runner, script)?;
         }
         Ok(member)
     }

@@ -1,5 +1,5 @@
 //! A phase of a plan: its clients make their calls side by side.
-ghost use Rattle.std.specs.Prelude.{◌≡◌, ◌<◌, suc, All, IfOk, IfErr, length, map};
+ghost use Rattle.std.specs.Prelude.{◌≡◌, ◌+◌, ◌<◌, All, IfOk, length, map};
 ghost use Rattle.lc_plan.specs.View.{script_of};
 ghost use Rattle.lc_crew.specs.Members.{HasMadeAll};
 ghost use Rattle.lc_crew.specs.Phases.{has_script, phases_to, IsToMake};
@@ -15,7 +15,7 @@ use std::sync::ledger::Ledger;
 use std::thread;
 use std::thread::{Promise, PromisedHandle, Threads};
 
-// What a client has made that comes back from a thread: its calls of so many phases.
+// What a client has made that comes back from a thread: its calls of the first phases of a plan.
 #[derive(Drop)]
 struct MakesTo {
     plan: Snapshot<Plan>,
@@ -59,7 +59,7 @@ fn cast_of<J: Ledger>(
     requires below { number < length plan.now.phases.items }
     requires made { All (HasMadeAll (phases_to plan.now number)) crew.items }
     ensures playing { IfOk result (λ cast. All (HasMadeAll (phases_to plan.now number)) cast.playing.items) }
-    ensures resting { IfOk result (λ cast. All (HasMadeAll (phases_to plan.now (suc number))) cast.resting.items) }
+    ensures resting { IfOk result (λ cast. All (HasMadeAll (phases_to plan.now (number + 1))) cast.resting.items) }
 {
     let mut playing = Vec::new(alloc);
     let mut resting = Vec::new(alloc);
@@ -83,12 +83,12 @@ fn play_on<J: Ledger, R: Wait>(
 ) -> Result<Member<J>, Stop>
     requires below { number < length plan.now.phases.items }
     requires made { HasMadeAll (phases_to plan.now number) member }
-    ensures { IfOk result (HasMadeAll (phases_to plan.now (suc number))) }
+    ensures { IfOk result (HasMadeAll (phases_to plan.now (number + 1))) }
 {
     member.plays_phase(rt, runner, &plan.phases[number])
 }
 
-// These clients, and those that threads hand back when they have made their calls of so many phases.
+// These clients, and those that threads hand back when they have made their calls of the first phases.
 fn joined<J: Ledger, R: Threads>(
     rt: &R,
     threads: Vec<PromisedHandle<Result<Member<J>, Stop>, MakesTo>>,
@@ -119,7 +119,7 @@ pub(crate) fn play_phase<J: Ledger + Sync, R: Threads + Wait + Sync>(
 ) -> Result<Vec<Member<J>>, Stop>
     requires below { number < length plan.now.phases.items }
     requires made { All (HasMadeAll (phases_to plan.now number)) crew.items }
-    ensures { IfOk result (λ after. All (HasMadeAll (phases_to plan.now (suc number))) after.items) }
+    ensures { IfOk result (λ after. All (HasMadeAll (phases_to plan.now (number + 1))) after.items) }
 {
     let cast = cast_of(alloc, crew, plan, number)?;
     let Cast { playing, resting } = cast;
@@ -133,8 +133,8 @@ pub(crate) fn play_phase<J: Ledger + Sync, R: Threads + Wait + Sync>(
         |scope| -> Result<Vec<Member<J>>, Stop>
             requires below { number < length plan.now.phases.items }
             requires playing { All (HasMadeAll (phases_to plan.now number)) playing.items }
-            requires resting { All (HasMadeAll (phases_to plan.now (suc number))) resting.items }
-            ensures { IfOk result (λ after. All (HasMadeAll (phases_to plan.entry.now (suc number))) after.items) }
+            requires resting { All (HasMadeAll (phases_to plan.now (number + 1))) resting.items }
+            ensures { IfOk result (λ after. All (HasMadeAll (phases_to plan.entry.now (number + 1))) after.items) }
         {
             let mut threads = Vec::new(alloc);
             for member in playing {
@@ -147,7 +147,7 @@ pub(crate) fn play_phase<J: Ledger + Sync, R: Threads + Wait + Sync>(
                     move || -> Result<Member<J>, Stop>
                         requires below { number < length plan.now.phases.items }
                         requires made { HasMadeAll (phases_to plan.now number) member }
-                        ensures { IfOk result (HasMadeAll (phases_to plan.entry.now (suc number))) }
+                        ensures { IfOk result (HasMadeAll (phases_to plan.entry.now (number + 1))) }
                     { play_on(rt, runner, member, plan, number) },
                 ) {
                     Ok(thread) => threads.push(thread)?,

@@ -18,7 +18,7 @@ use Rattle.lc_run.specs.declared.held.Shared.{Shared}
 use Rattle.lc_run.specs.declared.held.Seat.{Seat}
 use Rattle.lc_run.proofs.Growing.{HasRun}
 
--- behind a label a call is unfinished as the label says
+-- after a label a call is unfinished as the label says
 pub last-goes : (before : List Label) (l : Label) → is_unfinished (before ++ l ∷ []) ≡ goes_on l.what
 last-goes before l =
     ap (λ o. option_map_or (λ (x : Label). goes_on x.what) o false)

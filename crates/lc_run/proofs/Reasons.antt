@@ -1,4 +1,4 @@
--- Why a run is not finished: at most one reason applies, and none where all seats are its own.
+-- Why a run is not finished: at most one reason applies, and none if all seats are its own.
 use Rattle.std.proofs.Common.{◌≡◌, ℕ, ◌<◌, Bool, true, false, List, Option, Some, None, refl, sym, ap, subst, ◌∙◌, nat_lt, arith}
 use Rattle.std.specs.Prelude.{◌↔◌, All, MatchOption, slice_get}
 use Rattle.std.proofs.lemmas.Bool.Decides.{nat_tests}

@@ -45,7 +45,7 @@ IsUnderWay turns call c before after = (begun : List Label) × (k : ℕ) × HasM
 abbrev pub IsLeft : ℕ → Event → ℕ → List Label → List Label → Type 0
 IsLeft turns call c before after = (after ≡ before) ⊎ IsUnderWay turns call c before after
 
--- The same by the fault: nothing where no such call may begin, and its beginning where a number leaves 64 bits
+-- The same by the fault: nothing if no such call may begin, and its beginning if a number leaves 64 bits
 abbrev pub IsLeftBy : RunFault → ℕ → Event → ℕ → List Label → List Label → Type 0
 IsLeftBy Busy turns call c before after = after ≡ before
 IsLeftBy NoOp turns call c before after = after ≡ before
@@ -67,7 +67,7 @@ module _ {J : Type 0} where
   abbrev pub IsUnstepped : Seat J → RunFault → Type 0
   IsUnstepped t fault = ∥ ((s : Shared J) × IsStepFault (development_held s) (world_held s) (labels_held s) (client_in t) (labels_made t) fault) ∥₁
 
-  -- why a call of so many turns at most comes to no end: its client begins none; or it takes no step behind those that it took
+  -- why a call of at most `turns` turns comes to no end: its client begins none; or it takes no step after those that it took
   abbrev pub IsUncalled : Seat J → Seat J → ℕ → List ℤ → ℕ → RunFault → Type 0
   IsUncalled t t' op ns turns fault =
       (IsUnbegun t op ns fault × (labels_made t' ≡ labels_made t))

@@ -83,8 +83,8 @@ impl<J: Ledger> Shared<J> {
     ghost use Rattle.lc_run.specs.Seated.{IsWhole, IsWhyNot};
     ghost use Rattle.lc_run.specs.declared.finishing.Why.{Why};
 
-    /// Why these seats do not finish the run that is held, as one of this development and for so many clients: the first reason
-    /// that applies, and none where they are the seats of that run.
+    /// Why these seats do not finish the run that is held, as one of this development and for `clients` clients: the first reason
+    /// that applies, and none if they are the seats of that run.
     pub fn why_not(&self, accepted: &Accepted, clients: u32, seats: &[Seat<J>]) -> Option<Why>
         ensures whole { (result ≡ None) ↔ IsWhole self.now (development_in accepted.now) clients seats.now }
         ensures why { (why : Why) → (result ≡ Some why) ↔ IsWhyNot self.now (development_in accepted.now) clients seats.now why }

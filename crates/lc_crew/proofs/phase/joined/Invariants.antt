@@ -3,7 +3,7 @@ use Rattle.lc_crew.specs.Members.{HasMadeAll}
 use Rattle.lc_crew.specs.Phases.{phases_to, IsToMake}
 use Rattle.lc_crew.proofs.phase.joined.Given as goal
 
--- those so far have made their calls, and the threads that are left promise it
+-- these clients have made their calls, and the remaining threads promise it
 abbrev pub invariant-loop-thread : goal.invariant-loop-thread
 invariant-loop-thread g l = record {
   made : All (HasMadeAll (phases_to l._plan l._phases)) l.after.items;

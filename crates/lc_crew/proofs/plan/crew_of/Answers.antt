@@ -12,8 +12,8 @@ new-requires g c = All-head (λ s. labels_made s ≡ []) c.in-Some.seat c.next.n
 pub loop-seat-preserved : goal.loop-seat-preserved
 loop-seat-preserved g c =
     let so = c.loop-seat.invariant in
-    let member = c.new-in-loop-seat.result in
+    let member = c.new.result in
     record {
-      made = subst (All (HasMadeAll [])) (sym c.in_ok-push.ensures.items) (All-push (HasMadeAll []) c.loop-seat.crew.items member so.made (fresh member c.new-in-loop-seat.ensures.halt c.new-in-loop-seat.ensures.made));
+      made = subst (All (HasMadeAll [])) (sym c.in_ok-push.ensures.items) (All-push (HasMadeAll []) c.loop-seat.crew.items member so.made (fresh member c.new.ensures.halt c.new.ensures.made));
       left = All-tail (λ s. labels_made s ≡ []) c.in-Some.seat c.next.new.self.rest.items (subst (All (λ s. labels_made s ≡ [])) c.in-Some.ensures.steps.0 so.left);
     }

@@ -1,4 +1,4 @@
-use Rattle.std.proofs.Common.{[], ◌∷◌, ◌++◌, Some, sym, subst, arith}
+use Rattle.std.proofs.Common.{[], ◌∷◌, ◌++◌, sym, subst, arith}
 use Rattle.std.specs.Prelude.{All}
 use Rattle.std.proofs.lemmas.List.Elements.{All-head, All-tail}
 use Rattle.lc_plan.specs.View.{plan_of}
@@ -13,17 +13,17 @@ loop-member-preserved g c =
     let so = c.loop-member.invariant in
     let seats = c.loop-member.seats.items in
     let ends = c.loop-member.ends.items in
-    let member = c.in-Some-2.member in
+    let member = c.in-Some-member.member in
     let parts = c.into_parts-seat.result in
     let told = c.into_parts-seat.ensures in
     let left = subst (All (HasMadeAllIf phases)) c.in-Some.ensures.steps.0 so.left in
     let seats' = sym c.in_ok-push.ensures.items in
     let ends' = sym c.in_ok-push-2.ensures.items in
-    let made = All-head (HasMadeAllIf phases) (Some member) c.next.new.self.rest.items left in
+    let made = subst (HasMadeAllIf phases) c.in-Some-member.is (All-head (HasMadeAllIf phases) c.in-Some.member c.next.new.self.rest.items left) in
     record {
       ends = subst (λ ss. AreEndsOf phases ss c.push-in-loop-member.new.self.items) seats'
           (subst (λ es. AreEndsOf phases (seats ++ parts.0 ∷ []) es) ends'
           (end-more phases seats ends parts.0 parts.1 so.ends (is-end phases member parts.0 parts.1 told.seat told.labels told.client told.halt made)));
       numbered = subst (λ es. AreNumberedFrom 0 es) ends' (numbered-more 0 ends parts.1 so.numbered (omega (arith, c.if-ended-len.false, c.len.ensures, c.loop-member.ends.ok.0)));
-      left = All-tail (HasMadeAllIf phases) (Some member) c.next.new.self.rest.items left;
+      left = All-tail (HasMadeAllIf phases) c.in-Some.member c.next.new.self.rest.items left;
     }

@@ -32,6 +32,12 @@ returns-clause-there g c =
     let stands = subst (λ cs. StandsIn (clients_of cs) t.client) c.deref-2.ensures.value c.in_ok-may_step.ensures.may in
     if-done c.lawful_step.result _ (client-below s.stands.items s.clients t.client (In stands.0 stands.1) s.count stands.2)
 
+pub returns-clause-room : goal.returns-clause-room
+returns-clause-room g c =
+    let s = c.args.self.now in
+    let count : c.len.result ≡ length (labels_held s) = c.len.ensures ∙ (s.labels.ok.0 ∙ sym (length-map s.labels.items label_of)) in
+    if-done c.lawful_step.result (HaveRoom (labels_held s)) (subst (λ n. n < label_limit) count c.in_ok-may_step.ensures.room)
+
 pub returns-clause-fault : goal.returns-clause-fault
 returns-clause-fault g c =
     let s = c.args.self.now in
