@@ -1,5 +1,5 @@
 //! Native objects as objects for which an order is searched.
-ghost use Rattle.std.specs.Prelude.{◌≡◌, ◌↔◌, Some, tt, IsTrue, IfOk, slice_get};
+ghost use Rattle.std.specs.Prelude.{◌≡◌, ◌↔◌, Some, IsTrue, IfOk, slice_get};
 
 use crate::searchable::{Listed, Searchable, Stepped};
 use lc_base::OutOfMemory;
@@ -38,8 +38,6 @@ fn mixed(digest: u64, number: i64) -> u64 {
 }
 
 impl Searchable for NatCounter {
-    ghost use Rattle.std.specs.Prelude.{Unit};
-
     type Draft = i64;
 
     type Undo = i64;
@@ -104,8 +102,6 @@ impl Searchable for NatCounter {
 }
 
 impl Searchable for NatLock {
-    ghost use Rattle.std.specs.Prelude.{Unit};
-
     type Draft = Option<u32>;
 
     type Undo = Option<u32>;
@@ -175,8 +171,6 @@ impl Searchable for NatLock {
 }
 
 impl Searchable for NatSnapshot {
-    ghost use Rattle.std.specs.Prelude.{Unit};
-
     type Draft = Pair;
 
     type Undo = Pair;
@@ -248,8 +242,6 @@ fn are_same_lists(a: &[i64], b: &[i64]) -> bool
 }
 
 impl Searchable for NatStack {
-    ghost use Rattle.std.specs.Prelude.{Unit};
-
     type Draft = Vec<i64>;
 
     type Undo = EndUndo;
@@ -333,8 +325,6 @@ impl Searchable for NatStack {
 }
 
 impl Searchable for NatPoolStack {
-    ghost use Rattle.std.specs.Prelude.{Unit};
-
     type Draft = Vec<i64>;
 
     type Undo = EndUndo;
@@ -439,8 +429,6 @@ fn are_same_deques(a: &VecDeque<i64>, b: &VecDeque<i64>) -> bool
 }
 
 impl Searchable for NatQueue {
-    ghost use Rattle.std.specs.Prelude.{Unit};
-
     type Draft = VecDeque<i64>;
 
     type Undo = EndUndo;
