@@ -23,8 +23,8 @@ pub(crate) enum Sentence<'a> {
     HadReturned(usize),
     Missing { client: u32, number: usize },
     Unordered,
-    OpenCall { client: u32, could: &'a str },
-    ReturnedCall { client: u32, could: &'a str },
+    OpenCall(u32),
+    ReturnedCall(u32),
 }
 
 impl fmt::Display for Sentence<'_> {
@@ -73,12 +73,8 @@ impl fmt::Display for Sentence<'_> {
                 "call {number} of client {client} returned here, and has no entry in the order"
             ),
             Sentence::Unordered => f.write_str("no order linearizes the events up to this one"),
-            Sentence::OpenCall { client, could } => {
-                write!(f, "this call of client {client} is open there{could}")
-            }
-            Sentence::ReturnedCall { client, could } => {
-                write!(f, "this call of client {client} returns there{could}")
-            }
+            Sentence::OpenCall(it) => write!(f, "this call of client {it} is open there"),
+            Sentence::ReturnedCall(it) => write!(f, "this call of client {it} returns there"),
         }
     }
 }

@@ -12,4 +12,3 @@ mod Stores
 mod Starts
 mod Drafting
 mod Listing
-mod Stepping

@@ -76,27 +76,3 @@ pub(crate) fn call_there<S: Searchable>(
         })),
     }
 }
-
-/// By the place of a call whether it is known to only read. Nothing is promised of it: it spares a look at other calls.
-pub(crate) fn reads_in<S: Searchable>(
-    alloc: Global,
-    object: &S,
-    events: &[Event],
-) -> Result<Vec<bool>, OutOfMemory> {
-    let mut reads = Vec::with_capacity(alloc, events.len())?;
-    for event in events {
-        let mut is_read = false;
-        if let Event::Invoke { op, numbers, .. } = event {
-            if let Some(call) = object.call_of(alloc, op.0, numbers)? {
-                is_read = object.only_reads(&call);
-            }
-        }
-        reads.push(is_read)?;
-    }
-    Ok(reads)
-}
-
-/// Whether the call at a place is said to only read.
-pub(crate) fn is_read(reads: &[bool], place: usize) -> bool {
-    reads.get(place).copied().unwrap_or(false)
-}

@@ -8,9 +8,7 @@ mod draft;
 mod expanding;
 mod finding;
 pub mod laws;
-mod natives;
 mod nodes;
-mod open;
 mod refuting;
 mod roster;
 mod searchable;
@@ -19,7 +17,5 @@ mod written;
 
 pub use deciding::{Decision, decide};
 pub use draft::TextDraft;
-pub use natives::EndUndo;
-pub use open::{Replies, next_replies};
 pub use refuting::{Refutation, refute};
 pub use searchable::{Listed, Searchable, Stepped};

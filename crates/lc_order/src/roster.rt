@@ -141,19 +141,6 @@ impl Roster {
         self.lines[line].note(place, begins)?;
         Ok(())
     }
-
-    /// From now on a client returns at a place.
-    pub(crate) fn end_call(&mut self, client: u32, place: usize) -> Result<(), OutOfMemory> {
-        for line in 0..self.lines.len() {
-            let Some(its) = self.lines.get_mut(line) else {
-                return Ok(());
-            };
-            if its.client == client {
-                its.note(place, false)?;
-            }
-        }
-        Ok(())
-    }
 }
 
 /// The clients of these events.

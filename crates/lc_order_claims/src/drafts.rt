@@ -9,7 +9,7 @@ ghost use Rattle.lc_seq.specs.TextView.{specification_of};
 ghost use Rattle.lc_order.specs.Drafts.{IsDraft};
 ghost use Rattle.lc_order.specs.Listed.{IsListed};
 ghost use Rattle.lc_order.specs.Reading.{OnlyReads};
-ghost use Rattle.lc_order.specs.Steps.{IsStep, TakesNone, replied_by};
+ghost use Rattle.lc_order.specs.Steps.{IsStep, replied_by};
 
 use lc_base::OutOfMemory;
 use lc_order::{Listed, Searchable, Stepped, TextDraft};
@@ -48,23 +48,6 @@ pub fn stepping(
         IsStep (replied_by (λ reply. reply.items)) (text_step (specification_of spec.now).operations s client (text_call_of call.now) (choice_of choice.now)) s (state_of draft.new.cells) (IsDraft (specification_of spec.now).columns draft.new) result }
 {
     spec.step(alloc, draft, client, call, choice)
-}
-
-/// A call that is said to take no step under a choice, with its reply, takes none.
-pub fn excluding(
-    alloc: Global,
-    spec: &TextSpec,
-    draft: &TextDraft,
-    client: u32,
-    call: &TextCall,
-    choice: &Pick,
-    returned: bool,
-    reply: &[i64],
-) -> Result<bool, SeqFault>
-    requires { IsDraft (specification_of spec.now).columns draft.now }
-    ensures { IfOk result (λ none. IsTrue none → TakesNone (text_step (specification_of spec.now).operations) (state_of draft.now.cells) client (text_call_of call.now) (choice_of choice.now) returned reply.now) }
-{
-    spec.takes_none(alloc, draft, client, call, choice, returned, reply)
 }
 
 /// Drafts that are said to be the same stand for the same state.
