@@ -15,9 +15,11 @@ is_hinted-requires-clause-bounded c =
     one_bounded c.args.terms.now c.loop-place.terms c.args.part.now.conditions.items c.loop-place.place c.index-condition.result.now c.requires.known c.loop-place.invariant c.requires.bounded within
     c.index-condition.ensures
 
-pub seek-requires-clause-known : goal.seek-requires-clause-known
-seek-requires-clause-known c =
+pub seek-requires : goal.seek-requires
+seek-requires c =
     let within : c.loop-place.place < length c.args.part.now.conditions.items = search rules in
     let kept = kept_on c.args.terms.now c.loop-place.terms c.is_hinted.new.terms c.loop-place.invariant c.is_hinted.ensures.kept in
-    one_known c.args.terms.now c.is_hinted.new.terms c.args.part.now.conditions.items c.loop-place.place c.index-condition.result.now c.requires.known kept within
-    c.index-condition.ensures
+    record {
+      known = one_known c.args.terms.now c.is_hinted.new.terms c.args.part.now.conditions.items c.loop-place.place c.index-condition.result.now c.requires.known kept within
+          c.index-condition.ensures;
+    }
