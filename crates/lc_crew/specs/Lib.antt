@@ -1,5 +1,4 @@
 pub mod Halts
 pub mod Playing
 pub mod Members
-pub mod Phases
 pub mod Ran
