@@ -6,7 +6,7 @@ use std::{fs, io};
 /// What a certificate begins with, before its name.
 const CERTIFICATE: &[u8] = b"(certificate ";
 
-/// What each proof in it begins with, in a line of its own.
+/// What each proof in it begins with, and no other list.
 const PROOF: &[u8] = b"(proof ";
 
 /// The name of a certificate, as it is printed; nothing of any other text.
@@ -25,11 +25,8 @@ fn name_in(text: &[u8]) -> Option<&[u8]> {
 /// How many proofs a certificate has, as it is printed.
 fn proof_count(text: &[u8]) -> u64 {
     let mut count = 0u64;
-    for (place, byte) in text.iter().enumerate() {
-        if *byte != b'\n' {
-            continue;
-        }
-        if let Some(rest) = text.get(place.saturating_add(1)..)
+    for place in 0..text.len() {
+        if let Some(rest) = text.get(place..)
             && rest.starts_with(PROOF)
         {
             count = count.saturating_add(1);
