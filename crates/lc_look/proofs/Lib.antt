@@ -1,4 +1,5 @@
 mod Fitting
 mod Numbers
+mod Ranging
 mod Seeing
 mod Trying

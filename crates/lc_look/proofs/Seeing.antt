@@ -9,10 +9,12 @@ use Rattle.lc_term.proofs.Stable.{Holds-stable}
 use Rattle.lc_term.specs.Meaning.{State, Env, push, outside, value, Holds, AllHold, NoneHolds}
 use Rattle.lc_term.specs.Syntax.{Formula, Le, Eq, Not, And, Or, Implies, Forall, Exists, Formulas, none, more}
 use Rattle.lc_look.specs.Computing.{number}
-use Rattle.lc_look.specs.Looking.{seen_if, compared, opposite, both, at_most_open, look_each, look_in, look_all, look_none, Says, LooksAreRight}
+use Rattle.lc_look.specs.Looking.{seen_if, compared, opposite, both, at_most_open, look_each, look_tried, look_in, look_all, look_none, Says, LooksAreRight}
 use Rattle.lc_look.specs.declared.seen.Seen.{Seen}
 use Rattle.lc_look.specs.declared.seen.Seen.TheVariants.{Yes, No, Open}
+use Rattle.lc_look.specs.Ranges.{range_of, premise_range, numbers_in}
 use Rattle.lc_look.proofs.Numbers.{number_right}
+use Rattle.lc_look.proofs.Ranging.{EachOf, forall-right, exists-right}
 
 says_if : (r : Bool) (P : Type 0) → Decides r P → Says (seen_if r) P
 says_if true P d = d.0 refl
@@ -51,10 +53,6 @@ says_less Yes P Q g h = tt
 says_less No P Q g h = λ q. h (g q)
 says_less Open P Q g h = tt
 
-abbrev EachOf : List ℤ → (ℤ → Type 0) → Type 0
-EachOf [] P = Unit {0}
-EachOf (x ∷ xs) P = P x × EachOf xs P
-
 each_of : (xs : List ℤ) (P : ℤ → Type 0) → ((x : ℤ) → P x) → EachOf xs P
 each_of [] P h = tt
 each_of (x ∷ xs) P h = (h x, each_of xs P h)
@@ -62,6 +60,12 @@ each_of (x ∷ xs) P h = (h x, each_of xs P h)
 says_each : (p : ℤ → Seen) (P : ℤ → Type 0) (xs : List ℤ) → ((x : ℤ) → Says (p x) (P x)) → Says (look_each p xs) (EachOf xs P)
 says_each p P [] h = tt
 says_each p P (x ∷ xs) h = says_both (p x) (look_each p xs) (P x) (EachOf xs P) (h x) (says_each p P xs h)
+
+-- of a fact of all numbers, which is so if it is at each number of a range
+says_tried : (p : ℤ → Seen) (P : ℤ → Type 0) (ns : List ℤ) (range : Option (List ℤ)) (Q : Type 0) → ((x : ℤ) → Says (p x) (P x)) → (Q → (x : ℤ) → P x) →
+    ((xs : List ℤ) → range ≡ Some xs → EachOf xs P → Q) → Says (look_tried p ns range) Q
+says_tried p P ns None Q h down up = says_less (look_each p ns) (EachOf ns P) Q (λ q. each_of ns P (down q)) (says_each p P ns h)
+says_tried p P ns (Some xs) Q h down up = says_same (look_each p xs) (EachOf xs P) Q (up xs refl) (λ q. each_of xs P (down q)) (says_each p P xs h)
 
 mutual
   looks_in : (ns : List ℤ) (s : State) (e b : Env) (f : Formula) → Says (look_in ns s e b f) (Holds s e b f)
@@ -79,12 +83,13 @@ mutual
       (says_opposite (both (look_in ns s e b f) (opposite (look_in ns s e b g))) (Holds s e b f × (Holds s e b g → ⊥))
       (says_both (look_in ns s e b f) (opposite (look_in ns s e b g)) (Holds s e b f) (Holds s e b g → ⊥) (looks_in ns s e b f) (says_opposite (look_in ns s e b g) (Holds s e b g) (looks_in ns s e b g))))
   looks_in ns s e b (Forall f) =
-      says_less (look_each (λ x. look_in ns s e (push x b) f) ns) (EachOf ns (λ x. Holds s e (push x b) f)) (Holds s e b (Forall f)) (λ h. each_of ns (λ x. Holds s e (push x b) f) h)
-      (says_each (λ x. look_in ns s e (push x b) f) (λ x. Holds s e (push x b) f) ns (λ x. looks_in ns s e (push x b) f))
+      says_tried (λ x. look_in ns s e (push x b) f) (λ x. Holds s e (push x b) f) ns (numbers_in (premise_range s e f)) (Holds s e b (Forall f)) (λ x. looks_in ns s e (push x b) f)
+      (λ h. h) (λ xs is all. forall-right s e b f xs is all)
   looks_in ns s e b (Exists f) =
-      says_opposite (at_most_open (look_each (λ x. opposite (look_in ns s e (push x b) f)) ns)) ((x : ℤ) → Holds s e (push x b) f → ⊥)
-      (says_less (look_each (λ x. opposite (look_in ns s e (push x b) f)) ns) (EachOf ns (λ x. Holds s e (push x b) f → ⊥)) ((x : ℤ) → Holds s e (push x b) f → ⊥) (λ h. each_of ns (λ x. Holds s e (push x b) f → ⊥) h)
-      (says_each (λ x. opposite (look_in ns s e (push x b) f)) (λ x. Holds s e (push x b) f → ⊥) ns (λ x. says_opposite (look_in ns s e (push x b) f) (Holds s e (push x b) f) (looks_in ns s e (push x b) f))))
+      says_opposite (look_tried (λ x. opposite (look_in ns s e (push x b) f)) ns (numbers_in (range_of s e f))) ((x : ℤ) → Holds s e (push x b) f → ⊥)
+      (says_tried (λ x. opposite (look_in ns s e (push x b) f)) (λ x. Holds s e (push x b) f → ⊥) ns (numbers_in (range_of s e f)) ((x : ℤ) → Holds s e (push x b) f → ⊥)
+      (λ x. says_opposite (look_in ns s e (push x b) f) (Holds s e (push x b) f) (looks_in ns s e (push x b) f))
+      (λ h. h) (λ xs is all. exists-right s e b f xs is all))
 
   looks_all : (ns : List ℤ) (s : State) (e b : Env) (fs : Formulas) → Says (look_all ns s e b fs) (AllHold s e b fs)
   looks_all ns s e b none = tt

@@ -1,11 +1,13 @@
 -- What is seen of several formulas, one after another, and of one at several numbers.
-use Rattle.std.proofs.Common.{◌≡◌, ℕ, zero, suc, ◌+◌, ◌<◌, List, [], ◌∷◌, length, drop, get_or, refl, sym, ap, ◌∙◌, subst, add-one}
-use Rattle.std.specs.Prelude.{ℤ, pos}
+use Rattle.std.proofs.Common.{◌≡◌, ℕ, zero, suc, ◌+◌, ◌<◌, List, [], ◌∷◌, length, drop, get_or, refl, sym, ap, ap₂, ◌∙◌, subst, add-one}
+use Rattle.std.specs.Prelude.{ℤ, pos, Option}
 use Rattle.std.proofs.Math.Seq.{drop-cons}
 use Rattle.lc_term.specs.Meaning.{State, Env, push}
 use Rattle.lc_term.specs.Syntax as S
 use Rattle.lc_look.specs.Computing.{bounds_of}
-use Rattle.lc_look.specs.Looking.{both, look_each, look_in}
+use Rattle.lc_look.specs.Looking.{opposite, both, among, look_each, look_in}
+use Rattle.lc_look.specs.Ranges.{range_of, premise_range, numbers_in, tried}
+use Rattle.lc_look.specs.declared.range.Range.{Range}
 use Rattle.lc_look.specs.declared.seen.Seen.{Seen}
 use Rattle.lc_look.specs.declared.seen.Seen.TheVariants.{Yes, No, Open}
 
@@ -49,3 +51,19 @@ each-next p xs i v whole seen here seen' lt at is now h =
 -- where one was seen not to hold, the rest is of no matter
 pub seen-no : (whole seen rest : Seen) → seen ≡ No → whole ≡ both seen rest → No ≡ whole
 seen-no whole seen rest fails h = sym (h ∙ ap (λ m. both m rest) fails)
+
+-- ---- quantifiers, from what is seen at the numbers that are tried
+
+pub forall-told : (ns ts : List ℤ) (s : State) (e b : Env) (f : S.Formula) (r : Range) (range : Option (List ℤ)) (seen told : Seen) →
+    r ≡ premise_range s e f → range ≡ numbers_in r → ts ≡ tried ns range → seen ≡ look_each (λ x. look_in ns s e (push x b) f) ts → told ≡ among seen range →
+    told ≡ look_in ns s e b (S.Forall f)
+forall-told ns ts s e b f r range seen told r-is range-is ts-is seen-is told-is =
+    let q : range ≡ numbers_in (premise_range s e f) = range-is ∙ ap numbers_in r-is in
+    told-is ∙ ap₂ among (seen-is ∙ ap (look_each (λ x. look_in ns s e (push x b) f)) (ts-is ∙ ap (tried ns) q)) q
+
+pub exists-told : (ns ts : List ℤ) (s : State) (e b : Env) (f : S.Formula) (r : Range) (range : Option (List ℤ)) (seen told : Seen) →
+    r ≡ range_of s e f → range ≡ numbers_in r → ts ≡ tried ns range → seen ≡ look_each (λ x. opposite (look_in ns s e (push x b) f)) ts → told ≡ among seen range →
+    opposite told ≡ look_in ns s e b (S.Exists f)
+exists-told ns ts s e b f r range seen told r-is range-is ts-is seen-is told-is =
+    let q : range ≡ numbers_in (range_of s e f) = range-is ∙ ap numbers_in r-is in
+    ap opposite (told-is ∙ ap₂ among (seen-is ∙ ap (look_each (λ x. opposite (look_in ns s e (push x b) f))) (ts-is ∙ ap (tried ns) q)) q)

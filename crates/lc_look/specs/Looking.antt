@@ -4,6 +4,7 @@ use Rattle.std.specs.Ordering.{int_eq}
 use Rattle.lc_term.specs.Meaning.{State, Env, outside, push, Holds}
 use Rattle.lc_term.specs.Syntax.{Formula, Le, Eq, Not, And, Or, Implies, Forall, Exists, Formulas, none, more}
 use Rattle.lc_look.specs.Computing.{number}
+use Rattle.lc_look.specs.Ranges.{range_of, premise_range, numbers_in, tried}
 use Rattle.lc_look.specs.declared.seen.Seen.{Seen}
 use Rattle.lc_look.specs.declared.seen.Seen.TheVariants.{Yes, No, Open}
 
@@ -41,6 +42,15 @@ abbrev pub look_each : (ℤ → Seen) → List ℤ → Seen
 look_each p [] = Yes
 look_each p (x ∷ xs) = both (p x) (look_each p xs)
 
+-- what is seen at the numbers that are tried says of all numbers: as much as at them, if they are all of a range outside of which nothing can fail
+abbrev pub among : Seen → Option (List ℤ) → Seen
+among seen None = at_most_open seen
+among seen (Some range) = seen
+
+-- what is seen of all numbers, where some are tried if there is no range
+abbrev pub look_tried : (ℤ → Seen) → List ℤ → Option (List ℤ) → Seen
+look_tried p ns range = among (look_each p (tried ns range)) range
+
 abbrev mutual
   -- what is seen of a formula in a state, where the free variables are e, the bound ones b, and quantifiers are tried at ns
   pub look_in : List ℤ → State → Env → Env → Formula → Seen
@@ -50,8 +60,8 @@ abbrev mutual
   look_in ns s e b (And fs) = look_all ns s e b fs
   look_in ns s e b (Or fs) = opposite (look_none ns s e b fs)
   look_in ns s e b (Implies f g) = opposite (both (look_in ns s e b f) (opposite (look_in ns s e b g)))
-  look_in ns s e b (Forall f) = at_most_open (look_each (λ x. look_in ns s e (push x b) f) ns)
-  look_in ns s e b (Exists f) = opposite (at_most_open (look_each (λ x. opposite (look_in ns s e (push x b) f)) ns))
+  look_in ns s e b (Forall f) = look_tried (λ x. look_in ns s e (push x b) f) ns (numbers_in (premise_range s e f))
+  look_in ns s e b (Exists f) = opposite (look_tried (λ x. opposite (look_in ns s e (push x b) f)) ns (numbers_in (range_of s e f)))
 
   -- that each part holds
   pub look_all : List ℤ → State → Env → Env → Formulas → Seen

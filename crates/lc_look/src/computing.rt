@@ -30,7 +30,7 @@ fn sum(left: Option<i64>, right: Option<i64>) -> Option<i64>
 }
 
 #[tactic(auto, using(crate::proofs::Fitting::option_in_64))]
-fn difference(left: Option<i64>, right: Option<i64>) -> Option<i64>
+pub(crate) fn difference(left: Option<i64>, right: Option<i64>) -> Option<i64>
     ensures { result ≡ both_in_64 ◌-ℤ◌ left right }
 {
     match (left, right) {

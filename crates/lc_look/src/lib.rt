@@ -4,6 +4,7 @@
 mod computing;
 pub mod laws;
 mod looking;
+mod range;
 mod seen;
 
 pub use looking::look;

@@ -9,6 +9,7 @@ ghost use Rattle.lc_look.specs.Computing.{bounds_of, number};
 ghost use Rattle.lc_look.specs.Looking.{look, look_in, look_all, look_none, look_each, opposite, at_most_open, compared, Says};
 
 use crate::computing::number_of;
+use crate::range::{premise_range, range_of, tried};
 use crate::seen::Seen;
 use lc_base::OutOfMemory;
 use lc_term::{Env, Formula, State, Term};
@@ -80,12 +81,18 @@ fn look_in(
             Ok(left.and(right.opposite()).opposite())
         }
         Formula::Forall(body) => {
-            let seen = look_each(alloc, body, state, env, bounds, numbers)?;
-            Ok(seen.at_most_open())
+            let body: &Formula = body;
+            let range = premise_range(body, state, env).numbers(alloc)?;
+            let these = tried(&range, numbers);
+            let seen = look_each(alloc, body, state, env, bounds, these, numbers)?;
+            Ok(seen.among(&range))
         }
         Formula::Exists(body) => {
-            let seen = look_each_not(alloc, body, state, env, bounds, numbers)?;
-            Ok(seen.at_most_open().opposite())
+            let body: &Formula = body;
+            let range = range_of(body, state, env).numbers(alloc)?;
+            let these = tried(&range, numbers);
+            let seen = look_each_not(alloc, body, state, env, bounds, these, numbers)?;
+            Ok(seen.among(&range).opposite())
         }
     }
 }
@@ -134,6 +141,7 @@ fn look_none(
     Ok(seen)
 }
 
+// What is seen of the body at each of the numbers that are tried.
 #[cycle(look_in)]
 fn look_each(
     alloc: Global,
@@ -141,13 +149,14 @@ fn look_each(
     state: &State,
     env: &Env,
     bounds: &[i64],
+    these: &[i64],
     numbers: &[i64],
 ) -> Result<Seen, OutOfMemory>
-    ensures { IfOk result (λ seen. seen ≡ look_each (λ x. look_in numbers.now (state_of state.now) (env_of env.now) (push x (bounds_of bounds.now)) (formula_of body.now)) numbers.now) }
+    ensures { IfOk result (λ seen. seen ≡ look_each (λ x. look_in numbers.now (state_of state.now) (env_of env.now) (push x (bounds_of bounds.now)) (formula_of body.now)) these.now) }
 {
     let mut below = below_one_more(alloc, bounds)?;
     let mut seen = Seen::Yes;
-    for number in numbers {
+    for number in these {
         below[0] = *number;
         let here = look_in(alloc, body, state, env, &below, numbers)?;
         seen = seen.and(here);
@@ -158,6 +167,7 @@ fn look_each(
     Ok(seen)
 }
 
+// What is seen of its negation there.
 #[cycle(look_in)]
 fn look_each_not(
     alloc: Global,
@@ -165,13 +175,14 @@ fn look_each_not(
     state: &State,
     env: &Env,
     bounds: &[i64],
+    these: &[i64],
     numbers: &[i64],
 ) -> Result<Seen, OutOfMemory>
-    ensures { IfOk result (λ seen. seen ≡ look_each (λ x. opposite (look_in numbers.now (state_of state.now) (env_of env.now) (push x (bounds_of bounds.now)) (formula_of body.now))) numbers.now) }
+    ensures { IfOk result (λ seen. seen ≡ look_each (λ x. opposite (look_in numbers.now (state_of state.now) (env_of env.now) (push x (bounds_of bounds.now)) (formula_of body.now))) these.now) }
 {
     let mut below = below_one_more(alloc, bounds)?;
     let mut seen = Seen::Yes;
-    for number in numbers {
+    for number in these {
         below[0] = *number;
         let here = look_in(alloc, body, state, env, &below, numbers)?;
         seen = seen.and(here.opposite());

@@ -1,6 +1,7 @@
 //! What is seen of a formula.
 ghost use Rattle.std.specs.Prelude.{◌≡◌, Bool};
-ghost use Rattle.lc_look.specs.Looking.{seen_if, opposite, both, at_most_open, compared};
+ghost use Rattle.lc_look.specs.Looking.{seen_if, opposite, both, at_most_open, among, compared};
+ghost use Rattle.lc_look.specs.Ranges.{numbers_of};
 
 /// What is seen of a formula.
 #[derive(Clone, Copy)]
@@ -41,13 +42,23 @@ impl Seen {
     }
 
     /// What is seen where some numbers were tried that are not enough.
-    pub(crate) fn at_most_open(self) -> Seen
+    fn at_most_open(self) -> Seen
         ensures { result ≡ at_most_open self }
     {
         match self {
             Seen::Yes => Seen::Open,
             Seen::No => Seen::No,
             Seen::Open => Seen::Open,
+        }
+    }
+
+    /// What is seen of all numbers, if this is seen at those that are tried: all of a range, if there is one.
+    pub(crate) fn among(self, range: &Option<Vec<i64>>) -> Seen
+        ensures { result ≡ among self (numbers_of range.now) }
+    {
+        match range {
+            Some(_) => self,
+            None => self.at_most_open(),
         }
     }
 

@@ -39,6 +39,24 @@ fn too_large(alloc: Global) -> Result<Formula, OutOfMemory> {
     Ok(Formula::Le(Term::Add(first, largest), Term::Number(0)))
 }
 
+/// If the innermost bound variable is from 0 to this number, its cell has at most 7.
+fn small_up_to(alloc: Global, number: i64) -> Result<Formula, OutOfMemory> {
+    let low = Formula::Le(Term::Number(0), Term::Bound(0));
+    let high = Formula::Le(Term::Bound(0), Term::Number(number));
+    let small = Box::new(alloc, cell_at_most(alloc, 7)?)?;
+    let below = Formula::Implies(Box::new(alloc, high)?, small);
+    Ok(Formula::Implies(Box::new(alloc, low)?, Box::new(alloc, below)?))
+}
+
+/// The innermost bound variable is from 0 to this number, and its cell has at least 7.
+fn large_up_to(alloc: Global, number: i64) -> Result<Formula, OutOfMemory> {
+    let mut parts = Vec::new(alloc);
+    parts.push(Formula::Le(Term::Number(0), Term::Bound(0)))?;
+    parts.push(Formula::Le(Term::Bound(0), Term::Number(number)))?;
+    parts.push(cell_at_least(alloc, 7)?)?;
+    Ok(Formula::And(parts))
+}
+
 fn word(seen: Seen) -> &'static str {
     match seen {
         Seen::Yes => "it holds",
@@ -66,13 +84,17 @@ fn answer(alloc: Global, number: u8) -> Result<&'static str, OutOfMemory> {
         2 => some(alloc, cell_at_least(alloc, 7)?)?,
         3 => some(alloc, cell_at_least(alloc, 8)?)?,
         4 => too_large(alloc)?,
+        5 => each(alloc, small_up_to(alloc, 1023)?)?,
+        6 => each(alloc, small_up_to(alloc, 1024)?)?,
+        7 => some(alloc, large_up_to(alloc, 2)?)?,
+        8 => some(alloc, large_up_to(alloc, 3)?)?,
         _ => Formula::Not(Box::new(alloc, each(alloc, cell_at_most(alloc, 6)?)?)?),
     };
     looked(alloc, formula)
 }
 
 fn main(rt: HostRuntime) -> io::Result<()> {
-    for number in 0..6 {
+    for number in 0..10 {
         match answer(rt.alloc(), number) {
             Ok(answer) => println!(rt; "{answer}")?,
             Err(_) => println!(rt; "no memory")?,

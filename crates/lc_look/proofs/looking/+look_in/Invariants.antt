@@ -21,11 +21,11 @@ invariant-look_none-loop-part l =
 abbrev pub invariant-look_each-loop-number : goal.invariant-look_each-loop-number
 invariant-look_each-loop-number l =
     ((x : ℤ) × (l.below.items ≡ x ∷ l.bounds)) ×
-    (look_each (λ x. look_in l.numbers (state_of l.state) (env_of l.env) (push x (bounds_of l.bounds)) (formula_of l.body)) l.numbers ≡
-    both l.seen (look_each (λ x. look_in l.numbers (state_of l.state) (env_of l.env) (push x (bounds_of l.bounds)) (formula_of l.body)) (drop l.number-index l.numbers)))
+    (look_each (λ x. look_in l.numbers (state_of l.state) (env_of l.env) (push x (bounds_of l.bounds)) (formula_of l.body)) l.these ≡
+    both l.seen (look_each (λ x. look_in l.numbers (state_of l.state) (env_of l.env) (push x (bounds_of l.bounds)) (formula_of l.body)) (drop l.number-index l.these)))
 
 abbrev pub invariant-look_each_not-loop-number : goal.invariant-look_each_not-loop-number
 invariant-look_each_not-loop-number l =
     ((x : ℤ) × (l.below.items ≡ x ∷ l.bounds)) ×
-    (look_each (λ x. opposite (look_in l.numbers (state_of l.state) (env_of l.env) (push x (bounds_of l.bounds)) (formula_of l.body))) l.numbers ≡
-    both l.seen (look_each (λ x. opposite (look_in l.numbers (state_of l.state) (env_of l.env) (push x (bounds_of l.bounds)) (formula_of l.body))) (drop l.number-index l.numbers)))
+    (look_each (λ x. opposite (look_in l.numbers (state_of l.state) (env_of l.env) (push x (bounds_of l.bounds)) (formula_of l.body))) l.these ≡
+    both l.seen (look_each (λ x. opposite (look_in l.numbers (state_of l.state) (env_of l.env) (push x (bounds_of l.bounds)) (formula_of l.body))) (drop l.number-index l.these)))
