@@ -22,18 +22,18 @@ use std::io::Write;
 
 /// A file that a command reads.
 #[derive(Clone, Copy)]
-struct Named<'a> {
+struct NamedFile<'a> {
     path: &'a str,
     kind: FileKind,
 }
 
 /// The file at a path that is read as this kind.
-fn named(path: &str, kind: FileKind) -> Option<Named<'_>> {
-    Some(Named { path, kind })
+fn named(path: &str, kind: FileKind) -> Option<NamedFile<'_>> {
+    Some(NamedFile { path, kind })
 }
 
 /// The first file that a command reads.
-fn first_file(request: Request<'_>) -> Option<Named<'_>> {
+fn first_file(request: Request<'_>) -> Option<NamedFile<'_>> {
     match request {
         Request::Formula(path) => named(path, FileKind::Formula),
         Request::Judge { development, .. }
@@ -50,7 +50,7 @@ fn first_file(request: Request<'_>) -> Option<Named<'_>> {
 }
 
 /// The second file that a command reads.
-fn second_file(request: Request<'_>) -> Option<Named<'_>> {
+fn second_file(request: Request<'_>) -> Option<NamedFile<'_>> {
     match request {
         Request::Judge { history, .. }
         | Request::Draw { history, .. }
@@ -64,7 +64,7 @@ fn second_file(request: Request<'_>) -> Option<Named<'_>> {
 }
 
 /// The third file that a command reads, or the fourth.
-fn further_file(request: Request<'_>, place: usize) -> Option<Named<'_>> {
+fn further_file(request: Request<'_>, place: usize) -> Option<NamedFile<'_>> {
     match (request, place) {
         (Request::Run { plan, .. }, 2) => named(plan, FileKind::Plan),
         (Request::Carry { new, .. }, 2) => named(new, FileKind::Development),
@@ -74,7 +74,7 @@ fn further_file(request: Request<'_>, place: usize) -> Option<Named<'_>> {
 }
 
 /// The file that a command reads after `place` others.
-fn file_at(request: Request<'_>, place: usize) -> Option<Named<'_>> {
+fn file_at(request: Request<'_>, place: usize) -> Option<NamedFile<'_>> {
     match place {
         0 => first_file(request),
         1 => second_file(request),
@@ -170,11 +170,11 @@ fn file_told(
     alloc: Global,
     request: Request<'_>,
     texts: &Texts,
-    file: Named<'_>,
+    file: NamedFile<'_>,
     bytes: &[u8],
     refusal: &Refusal,
 ) -> Result<Option<Vec<u8>>, OutOfMemory> {
-    let Named { path, kind } = file;
+    let NamedFile { path, kind } = file;
     if kind == FileKind::History {
         return history_told(alloc, request, texts, path, bytes, refusal);
     }
