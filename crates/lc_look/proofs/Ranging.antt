@@ -177,11 +177,6 @@ pub from_more : (low : ℤ) (k : ℕ) (xs : List ℤ) (x : ℤ) → xs ≡ from 
 from_more low k xs x is there =
     ap₂ (λ ys y. ys ++ y ∷ []) is there ∙ sym (from-suc low k) ∙ ap (from low) (sym (add-one k))
 
--- all of them
-pub between_all : (low high : ℤ) (found : Option ℕ) (count k : ℕ) (xs : List ℤ) → found ≡ Some count → found ≡ count_between low high → k ≡ count → xs ≡ from low k → Some xs ≡ between low high
-between_all low high found count k xs some is all made =
-    ap Some (made ∙ ap (from low) all) ∙ ap (option_map (from low)) (sym some ∙ is)
-
 -- ---- how many there are
 
 -- what is between two numbers of 64 bits fits
