@@ -23,7 +23,7 @@ pub depth_within : (n b i : ℕ) → n ≤ i → depth_behind n b ≤ i + 1
 depth_within n b i le = at_most (eqb b 40) (eqb b 41) n i le
 
 -- a byte more in the piece that is begun
-pub longer : (done all : List (List ℕ)) (n : ℕ) (w now t : List ℕ) (b : ℕ) → begins n b ≡ false → now ≡ w ++ b ∷ [] → done ++ pieces_behind n w (b ∷ t) ≡ all → done ++ pieces_behind (depth_behind n b) now t ≡ all
-longer done all n w now t b not is_now before =
+pub pieces_byte_longer : (done all : List (List ℕ)) (n : ℕ) (w now t : List ℕ) (b : ℕ) → begins n b ≡ false → now ≡ w ++ b ∷ [] → done ++ pieces_behind n w (b ∷ t) ≡ all → done ++ pieces_behind (depth_behind n b) now t ≡ all
+pieces_byte_longer done all n w now t b not is_now before =
     ap (λ l. done ++ pieces_behind (depth_behind n b) l t) is_now
     ∙ sym (ap (λ c. done ++ cond c (w ∷ pieces_behind (depth_behind n b) (b ∷ []) t) (pieces_behind (depth_behind n b) (w ++ b ∷ []) t)) not) ∙ before

@@ -140,12 +140,12 @@ kept_by : (b : Bool) (u : Vec ℕ Global) (us ks : List (Vec ℕ Global)) → ke
 kept_by true u us ks = refl
 kept_by false u us ks = refl
 
-pub entered : (ks : List (Vec ℕ Global)) (v : Vec ℕ Global) → place_of (kept_in (insert_key (λ (x y : Vec ℕ Global). is x.items y.items) ks v)) v.items ≡ Some (position_or_len (λ (u : Vec ℕ Global). is v.items u.items) ks)
-entered [] v = ap (λ b. cond b (Some 0) None) (same_text v.items)
-entered (u ∷ us) v =
+pub place_in_inserted : (ks : List (Vec ℕ Global)) (v : Vec ℕ Global) → place_of (kept_in (insert_key (λ (x y : Vec ℕ Global). is x.items y.items) ks v)) v.items ≡ Some (position_or_len (λ (u : Vec ℕ Global). is v.items u.items) ks)
+place_in_inserted [] v = ap (λ b. cond b (Some 0) None) (same_text v.items)
+place_in_inserted (u ∷ us) v =
     let same = λ (x : Vec ℕ Global). is v.items x.items in
     ap (λ l. place_of l v.items) (kept_by (same u || list_any same us) u us (us ++ v ∷ []))
-    ∙ entered_by (same u) (list_any same us) v u.items us (position_or_len same us) refl (entered us v)
+    ∙ entered_by (same u) (list_any same us) v u.items us (position_or_len same us) refl (place_in_inserted us v)
 
 kept_more : (b : Bool) (ks : List (Vec ℕ Global)) (v : Vec ℕ Global) → KeepsPieces (kept_in ks) (kept_in (cond b ks (ks ++ v ∷ [])))
 kept_more true ks v = ([], sym (append-nil (kept_in ks)))

@@ -96,6 +96,6 @@ module _ (kept : List (List ℕ)) (es : List (Vec ℕ Global × ℕ)) (text : Li
   number_noted t = number_by t (is_some (lookup (λ (k : Vec ℕ Global). is key.items k.items) es)) (sym (ap is_some (found_at kept es text key.items all here)))
 
 -- what holds of what is noted, and of what was there, holds of what there is then
-pub after : {T E : Type 0} (r : Result T E) (P : List (Vec ℕ Global × ℕ) → Type 0) (new now es : List (Vec ℕ Global × ℕ)) → OnOk r (new ≡ now) → OnErr r (new ≡ es) → P now → P es → P new
-after (Ok x) P new now es is_noted same here there = subst P (sym is_noted) here
-after (Err e) P new now es is_noted same here there = subst P (sym same) there
+pub holds_after_noting : {T E : Type 0} (r : Result T E) (P : List (Vec ℕ Global × ℕ) → Type 0) (new now es : List (Vec ℕ Global × ℕ)) → OnOk r (new ≡ now) → OnErr r (new ≡ es) → P now → P es → P new
+holds_after_noting (Ok x) P new now es is_noted same here there = subst P (sym is_noted) here
+holds_after_noting (Err e) P new now es is_noted same here there = subst P (sym same) there

@@ -11,10 +11,10 @@ use Rattle.lc_outline.specs.Development.{Development}
 use Rattle.lc_table.specs.NodeTables.{Table}
 
 -- if no part is given, nothing is left
-pub ended : (d : Development) (ts : Table) (before after : ConditionStream) (part : Option (Vec Condition Global)) → ((cs : Vec Condition Global) → part ≡ Some cs → ⊥) → IsNextPart d ts before after part
+pub no_part_ends : (d : Development) (ts : Table) (before after : ConditionStream) (part : Option (Vec Condition Global)) → ((cs : Vec Condition Global) → part ≡ Some cs → ⊥) → IsNextPart d ts before after part
     → IsEnd d before after
-ended d ts before after None none next = next
-ended d ts before after (Some cs) none next = absurd (none cs refl)
+no_part_ends d ts before after None none next = next
+no_part_ends d ts before after (Some cs) none next = absurd (none cs refl)
 
 -- the condition at hand comes before those that are left of a part
 pub at_hand : (ts : Table) (cs : List Condition) (i : ℕ) (c : Condition) → i < length cs → c ≡ get_or cs i c → map (condition_in ts) (drop i cs) ≡ condition_in ts c ∷ map (condition_in ts) (drop (i + 1) cs)

@@ -5,7 +5,7 @@ use Rattle.std.specs.Prelude.{codes}
 use Rattle.lc_sexp.proofs.Items.{items_fit_lem}
 use Rattle.lc_sexp.specs.Parts.{fits_i64}
 use Rattle.lc_sexp.specs.Trees.{Tree, Trees, none, ◌▸◌, item_count, item_count_of_all}
-use Rattle.lc_reading.proofs.Fine.{IfFine, anything, both_fine, ended_fine, two_fine, behind_fine, of_fine}
+use Rattle.lc_reading.proofs.Fine.{IfFine, if_fine_unit, both_fine, ended_fine, two_fine, behind_fine, of_fine}
 use Rattle.lc_reading.specs.Readings.{Reading, fine, flawed, wrong}
 use Rattle.lc_reading.specs.declared.pass.Pass.TheVariants.{Shape}
 use Rattle.lc_term.specs.Lists.{Every}
@@ -63,7 +63,7 @@ module _ (D : Development) where
   named_kept n m none small = tt
   named_kept n m (t ▸ ts) small =
       both_fine (λ u. Unit {0}) (Every (EntryReadsBack D)) (Every (EntryReadsBack D)) (λ u es. es) (name_due D.object.name m t) (entries_reading (names_with (column_names D)) None (m + item_count t) ts)
-      (anything (name_due D.object.name m t)) (entries_kept None (m + item_count t) ts (omega arith)) (λ u es a b. b)
+      (if_fine_unit (name_due D.object.name m t)) (entries_kept None (m + item_count t) ts (omega arith)) (λ u es a b. b)
 
   form_kept : (n : ℕ) (t : Tree) → item_count t ≤ 4294967296 → IfFine (form_reading (column_names D) D.object.name n t) (Every (EntryReadsBack D))
   form_kept n t small =

@@ -3,7 +3,7 @@ use Rattle.std.proofs.Common.{◌≡◌, ℕ, ◌+◌, Bool, true, false, cond, 
 use Rattle.std.proofs.lemmas.Bool.{and_from}
 use Rattle.std.specs.Prelude.{ℤ, pos, negsuc, codes}
 use Rattle.lc_sexp.specs.Trees.{Tree, Trees, none, ◌▸◌, item_count, item_count_of_all}
-use Rattle.lc_reading.proofs.Fine.{IfFine, anything, both_fine, ended_fine, two_fine, behind_fine, of_fine}
+use Rattle.lc_reading.proofs.Fine.{IfFine, if_fine_unit, both_fine, ended_fine, two_fine, behind_fine, of_fine}
 use Rattle.lc_reading.specs.Files.{Says}
 use Rattle.lc_reading.specs.Readings.{Reading, fine, flawed, wrong, both}
 use Rattle.lc_reading.specs.declared.flaw.Flaw.{Flaw}
@@ -32,7 +32,7 @@ parts_above names last n m none = tt
 parts_above names last n m (t ▸ none) = tt
 parts_above names last n m (t ▸ u ▸ ts) =
     two_fine (λ k. is_above last k ≡ true) (λ p. Unit {0}) (λ e. is_above last e.number ≡ true) entry m t u ts (place_reading last m t) (proof_reading names (m + item_count t) u)
-    (number_above last m (number_reading m t)) (anything (proof_reading names (m + item_count t) u)) (λ k p h g. h)
+    (number_above last m (number_reading m t)) (if_fine_unit (proof_reading names (m + item_count t) u)) (λ k p h g. h)
 
 entry_above : (names : Names) (last : Option ℕ) (n : ℕ) (t : Tree) → IfFine (entry_reading names last n t) (λ e. is_above last e.number ≡ true)
 entry_above names last n t = behind_fine (λ e. is_above last e.number ≡ true) (codes "proof") (parts_reading names last) n t (λ m ts few. parts_above names last n m ts)
@@ -61,7 +61,7 @@ named_rise : (columns : List (List ℕ)) (name : List ℕ) (n m : ℕ) (ts : Tre
 named_rise columns name n m none = tt
 named_rise columns name n m (t ▸ ts) =
     both_fine (λ u. Unit {0}) (λ es. is_rising None es ≡ true) (λ es. is_rising None es ≡ true) (λ u es. es) (name_due name m t) (entries_reading (names_with columns) None (m + item_count t) ts)
-    (anything (name_due name m t)) (entries_rise (names_with columns) None (m + item_count t) ts) (λ u es a h. h)
+    (if_fine_unit (name_due name m t)) (entries_rise (names_with columns) None (m + item_count t) ts) (λ u es a h. h)
 
 form_rises : (columns : List (List ℕ)) (name : List ℕ) (n : ℕ) (t : Tree) → IfFine (form_reading columns name n t) (λ es. is_rising None es ≡ true)
 form_rises columns name n t = behind_fine (λ es. is_rising None es ≡ true) (codes "certificate") (named_reading columns name) n t (λ m ts few. named_rise columns name n m ts)

@@ -5,7 +5,7 @@ use Rattle.lc_base.specs.Limits.{file_limit}
 use Rattle.lc_sexp.proofs.Items.{items_fit_lem}
 use Rattle.lc_sexp.specs.Trees.{Tree, Trees, none, ◌▸◌, item_count, item_count_of_all}
 use Rattle.lc_kernel.specs.Proofs.{size}
-use Rattle.lc_reading.proofs.Fine.{IfFine, anything, weaker, both_fine, ended_fine, two_fine, behind_fine, of_fine}
+use Rattle.lc_reading.proofs.Fine.{IfFine, if_fine_unit, if_fine_weaker, both_fine, ended_fine, two_fine, behind_fine, of_fine}
 use Rattle.lc_term.specs.Lists.{Every}
 use Rattle.lc_term.proofs.Stores.{Every-map}
 use Rattle.lc_text.specs.Names.{Names}
@@ -34,12 +34,12 @@ parts_sized names last n m none = tt
 parts_sized names last n m (t ▸ none) = tt
 parts_sized names last n m (t ▸ u ▸ ts) =
     two_fine (λ k. Unit {0}) (λ p. size p ≤ item_count u) (IsSized (item_count_of_all (t ▸ u ▸ ts))) entry m t u ts (place_reading last m t) (proof_reading names (m + item_count t) u)
-    (anything (place_reading last m t)) (proof_sized names (m + item_count t) u) (λ k p a b. omega (arith, b))
+    (if_fine_unit (place_reading last m t)) (proof_sized names (m + item_count t) u) (λ k p a b. omega (arith, b))
 
 pub entry_sized : (names : Names) (last : Option ℕ) (n : ℕ) (t : Tree) → IfFine (entry_reading names last n t) (IsSized (item_count t))
 entry_sized names last n t =
     behind_fine (IsSized (item_count t)) (codes "proof") (parts_reading names last) n t
-    (λ m ts few. weaker (IsSized (item_count_of_all ts)) (IsSized (item_count t)) (parts_reading names last n m ts) (λ e a. omega (arith, a, few)) (parts_sized names last n m ts))
+    (λ m ts few. if_fine_weaker (IsSized (item_count_of_all ts)) (IsSized (item_count t)) (parts_reading names last n m ts) (λ e a. omega (arith, a, few)) (parts_sized names last n m ts))
 
 entries_sized : (names : Names) (last : Option ℕ) (m : ℕ) (ts : Trees) → IfFine (entries_reading names last m ts) (AreSized (item_count_of_all ts))
 entries_sized names last m none = tt
@@ -54,19 +54,19 @@ named_sized columns name n m none = tt
 named_sized columns name n m (t ▸ ts) =
     let all = item_count_of_all (t ▸ ts) in
     both_fine (λ u. Unit {0}) (AreSized (item_count_of_all ts)) (AreSized all) (λ u es. es) (name_due name m t) (entries_reading (names_with columns) None (m + item_count t) ts)
-    (anything (name_due name m t)) (entries_sized (names_with columns) None (m + item_count t) ts) (λ u es a h. more_items (item_count_of_all ts) all es (omega arith) h)
+    (if_fine_unit (name_due name m t)) (entries_sized (names_with columns) None (m + item_count t) ts) (λ u es a h. more_items (item_count_of_all ts) all es (omega arith) h)
 
 form_sized : (columns : List (List ℕ)) (name : List ℕ) (n : ℕ) (t : Tree) → IfFine (form_reading columns name n t) (AreSized (item_count t))
 form_sized columns name n t =
     behind_fine (AreSized (item_count t)) (codes "certificate") (named_reading columns name) n t
-    (λ m ts few. weaker (AreSized (item_count_of_all ts)) (AreSized (item_count t)) (named_reading columns name n m ts) (λ es a. more_items (item_count_of_all ts) (item_count t) es (omega (arith, few)) a) (named_sized columns name n m ts))
+    (λ m ts few. if_fine_weaker (AreSized (item_count_of_all ts)) (AreSized (item_count t)) (named_reading columns name n m ts) (λ es a. more_items (item_count_of_all ts) (item_count t) es (omega (arith, few)) a) (named_sized columns name n m ts))
 
 file_sized : (columns : List (List ℕ)) (name : List ℕ) (n m : ℕ) (ts : Trees) → IfFine (only (form_reading columns name) n m ts) (AreSized (item_count_of_all ts))
 file_sized columns name n m none = tt
 file_sized columns name n m (t ▸ ts) =
     let all = item_count_of_all (t ▸ ts) in
     ended_fine (AreSized all) (m + item_count t) ts (form_reading columns name m t)
-    (weaker (AreSized (item_count t)) (AreSized all) (form_reading columns name m t) (λ es a. more_items (item_count t) all es (omega arith) a) (form_sized columns name m t))
+    (if_fine_weaker (AreSized (item_count t)) (AreSized all) (form_reading columns name m t) (λ es a. more_items (item_count t) all es (omega arith) a) (form_sized columns name m t))
 
 pub certificate_sized : (D : Development) (bytes : List ℕ) (es : List Entry) → Certifies D bytes es → HaveFewSteps es
 certificate_sized D bytes es (ts, reads, says) =

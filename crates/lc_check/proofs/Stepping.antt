@@ -18,7 +18,7 @@ use Rattle.lc_cond.specs.Conditions.{conditions}
 use Rattle.lc_cond.specs.ConditionView.{condition_in}
 use Rattle.lc_check.proofs.InTurn.{proved_behind, unproved_behind, extra_behind, extra_from, rises_behind, left_out}
 use Rattle.lc_check.proofs.LeastExtra.{at_first, not_below}
-use Rattle.lc_check.proofs.Walking.{split, some_left, due_behind, next_due}
+use Rattle.lc_check.proofs.Walking.{conditions_done_due, some_left, due_behind, next_due}
 use Rattle.lc_check.specs.Answers.{fault_of, ProvesOne, CountsAll}
 use Rattle.lc_check.specs.Progress.{IsCertain, IsProgressTelling, IsProgress}
 use Rattle.lc_check.specs.Verdicts.{IsUnproved, AreProved, IsFirstUnproved, IsExtra, IsProofRefusal}
@@ -48,7 +48,7 @@ unproved_certain d taken p c cs e r h due f more rises =
     let u = f more (subst (λ l. is_rising None l ≡ true) joined rises) in
     let first : IsFirstUnproved (e ∷ more) (0 + length h.done) (c ∷ cs) r = inl (subst (λ n. IsUnproved n c (proof_at (e ∷ more) n) r) is u) in
     let all : IsFirstUnproved (taken ++ e ∷ more) 0 (conditions d) r =
-    subst (λ l. IsFirstUnproved (taken ++ e ∷ more) 0 l r) (sym (split d taken p (c ∷ cs) h due)) (unproved_behind 0 taken (e ∷ more) h.done (c ∷ cs) r h.proved first) in
+    subst (λ l. IsFirstUnproved (taken ++ e ∷ more) 0 l r) (sym (conditions_done_due d taken p (c ∷ cs) h due)) (unproved_behind 0 taken (e ∷ more) h.done (c ∷ cs) r h.proved first) in
     subst (λ l. IsProofRefusal l (conditions d) r) (sym joined) (inl all)
 
 pub refused_certain : (d : Development) (taken : List Entry) (p : Walk) (c : S.Condition) (cs : List S.Condition) (e : Entry) (r : Refusal) → IsInTurn d taken p → conditions_due d p ≡ c ∷ cs → e.number ≡ p.next
@@ -70,7 +70,7 @@ extra_certain d taken p e h due more rises =
     let joined : (taken ++ e ∷ []) ++ more ≡ taken ++ e ∷ more = append_assoc taken (e ∷ []) more in
     let (le, later) = risen d taken p e more h (subst (λ l. is_rising None l ≡ true) joined rises) in
     let n = length (conditions d) in
-    let all = split d taken p [] h due in
+    let all = conditions_done_due d taken p [] h due in
     let size = ap length all ∙ ap length (append-nil h.done) in
     let is : n ≡ 0 + length h.done = omega (arith, size) in
     let proved : AreProved (taken ++ e ∷ more) 0 (conditions d) = subst (AreProved (taken ++ e ∷ more) 0) (sym all) (proved_behind 0 taken (e ∷ more) h.done [] h.proved tt) in
@@ -104,14 +104,14 @@ missing_last d taken p c cs h due =
     let is : p.next ≡ 0 + length h.done = omega (arith, before) in
     let first : IsFirstUnproved [] (0 + length h.done) (c ∷ cs) (Missing p.next) = inl (ap Missing is) in
     let all = unproved_behind 0 taken [] h.done (c ∷ cs) (Missing p.next) h.proved first in
-    inl (subst (λ l. IsFirstUnproved taken 0 l (Missing p.next)) (sym (split d taken p (c ∷ cs) h due)) (subst (λ l. IsFirstUnproved l 0 (h.done ++ c ∷ cs) (Missing p.next)) (append-nil taken) all))
+    inl (subst (λ l. IsFirstUnproved taken 0 l (Missing p.next)) (sym (conditions_done_due d taken p (c ∷ cs) h due)) (subst (λ l. IsFirstUnproved l 0 (h.done ++ c ∷ cs) (Missing p.next)) (append-nil taken) all))
 
 nothing_extra : (n j : ℕ) → IsExtra n [] j → ⊥
 nothing_extra n j x = let f : None ≡ Some x.proof = x.stands in cc
 
 pub all_in_turn : (d : Development) (taken : List Entry) (p : Walk) → IsInTurn d taken p → conditions_due d p ≡ [] → CountsAll taken (conditions d) (Ok p.next)
 all_in_turn d taken p h due =
-    let all = split d taken p [] h due in
+    let all = conditions_done_due d taken p [] h due in
     let before = h.count in
     let size = ap length all ∙ ap length (append-nil h.done) in
     let is : length (conditions d) ≡ 0 + length h.done = omega (arith, size) in
@@ -133,8 +133,8 @@ pub none_if : (o : Option Refusal) → ((r : Refusal) → o ≡ Some r → ⊥) 
 none_if None h = refl
 none_if (Some r) h = absurd (h r refl)
 
-pub untold : (d : Development) (taken : List Entry) (p : Progress) → p.told ≡ None → IsProgress d taken p → IsInTurn d taken p.walk
-untold d taken p is h = subst (IsProgressTelling d taken p.walk) is h
+pub untold_in_turn : (d : Development) (taken : List Entry) (p : Progress) → p.told ≡ None → IsProgress d taken p → IsInTurn d taken p.walk
+untold_in_turn d taken p is h = subst (IsProgressTelling d taken p.walk) is h
 
 pub told_so : (d : Development) (taken : List Entry) (p : Progress) (r : Refusal) → p.told ≡ Some r → IsProgress d taken p → IsCertain d taken r
 told_so d taken p r is h = subst (IsProgressTelling d taken p.walk) is h

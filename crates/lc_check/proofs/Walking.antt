@@ -53,15 +53,15 @@ pub first_left : (cs : List Condition) (i : ℕ) (x : Condition) → i < length 
 first_left cs i x lt is = drop_more cs i x lt ∙ ap (λ y. y ∷ drop (i + 1) cs) (sym is)
 
 -- no more of a list is left past its end
-pub past : {A : Type 0} (xs : List A) (i : ℕ) → length xs ≤ i → drop i xs ≡ []
-past [] zero le = refl
-past [] (suc i) le = refl
-past (x ∷ xs) zero le = absurd (omega (arith, le))
-past (x ∷ xs) (suc i) le = past xs i (omega (arith, le))
+pub drop_past_end : {A : Type 0} (xs : List A) (i : ℕ) → length xs ≤ i → drop i xs ≡ []
+drop_past_end [] zero le = refl
+drop_past_end [] (suc i) le = refl
+drop_past_end (x ∷ xs) zero le = absurd (omega (arith, le))
+drop_past_end (x ∷ xs) (suc i) le = drop_past_end xs i (omega (arith, le))
 
 -- nothing is left of a part, so what is expected comes after it
 pub due_past : (d : Development) (p : Walk) → length p.part.items ≤ p.place → conditions_due d p ≡ conditions_left d p.stream
-due_past d p le = ap (λ l. map (condition_in p.terms) l ++ conditions_left d p.stream) (past p.part.items p.place le)
+due_past d p le = ap (λ l. map (condition_in p.terms) l ++ conditions_left d p.stream) (drop_past_end p.part.items p.place le)
 
 -- the next part is at hand
 pub due_in_part : (d : Development) (before : Walk) (ts : Table) (cs : List Condition) (stream : ConditionStream) → length before.part.items ≤ before.place
@@ -88,11 +88,11 @@ still_due d old new rest stream is known kept =
 
 -- ---- what is done and what is expected
 
-pub split : (d : Development) (taken : List Entry) (p : Walk) (cs : List S.Condition) (h : IsInTurn d taken p) → conditions_due d p ≡ cs → conditions d ≡ h.done ++ cs
-split d taken p cs h due = h.all ∙ ap (λ l. h.done ++ l) due
+pub conditions_done_due : (d : Development) (taken : List Entry) (p : Walk) (cs : List S.Condition) (h : IsInTurn d taken p) → conditions_due d p ≡ cs → conditions d ≡ h.done ++ cs
+conditions_done_due d taken p cs h due = h.all ∙ ap (λ l. h.done ++ l) due
 
 pub went_on : (d : Development) (taken : List Entry) (old new : Walk) → IsInTurn d taken old → IsAtDue d old new → IsInTurn d taken new
-went_on d taken old new h at = record { done = h.done; all = split d taken old (conditions_due d new) h (sym at.due); proved = h.proved; count = at.next ∙ h.count; known = at.known h.known }
+went_on d taken old new h at = record { done = h.done; all = conditions_done_due d taken old (conditions_due d new) h (sym at.due); proved = h.proved; count = at.next ∙ h.count; known = at.known h.known }
 
 pub one_proved : (d : Development) (taken : List Entry) (old new : Walk) (c : S.Condition) (e : Entry) → IsInTurn d taken old → conditions_due d old ≡ c ∷ conditions_due d new → e.number ≡ old.next → new.next ≡ suc old.next
     → IsProved c (Some e.proof) → IsKnown new → IsInTurn d (taken ++ e ∷ []) new
@@ -101,7 +101,7 @@ one_proved d taken old new c e h due at next p known =
     let size = length-append h.done (c ∷ []) in
     record {
       done = h.done ++ c ∷ [];
-      all = split d taken old (c ∷ conditions_due d new) h due ∙ sym (append_assoc h.done (c ∷ []) (conditions_due d new));
+      all = conditions_done_due d taken old (c ∷ conditions_due d new) h due ∙ sym (append_assoc h.done (c ∷ []) (conditions_due d new));
       proved = in_turn_more 0 taken h.done e c h.proved (omega (arith, at, before)) p;
       count = omega (arith, next, before, size);
       known = known;

@@ -15,7 +15,7 @@ use Rattle.lc_action.specs.Action.{Action, enter, acting_variables, guard_for, p
 use Rattle.lc_tie.specs.Tie.{start_column}
 use Rattle.lc_outline.specs.Development.{Development, On, first_system, invariant_of, all_actions, start_numbers, on_at, ons_at, asserts_at, riders_in, asserts_to, in_operation, in_body}
 use Rattle.lc_outline.specs.Resolved.{AreArgumentsBelow, IsResolved}
-use Rattle.lc_outline.proofs.Chosen.{chosen}
+use Rattle.lc_outline.proofs.Chosen.{every_on_for}
 use Rattle.lc_rider.specs.Paths.{edge_variables, Duty, Path, paths, path_start}
 use Rattle.lc_kernel.specs.Below.{column_below, term_below, formula_below, all_below}
 use Rattle.lc_kernel.proofs.InUse.{column_below-raised, formula_below-more}
@@ -216,7 +216,7 @@ module _ (D : Development) (X : IsResolved D) where
       (range-below n (Variable 1) (omega arith) (variable-below n 1 (omega arith))) (body-below e.point point o at is)) edge.facts
       in
       let arguments : (x : On) → on ≡ Some x → TermsBelow n x.arguments =
-      λ x chose. chosen (AreArgumentsBelow n) (ons_at D e.point) e.kind (X.arguments e.point point o at is) x chose
+      λ x chose. every_on_for (AreArgumentsBelow n) (ons_at D e.point) e.kind (X.arguments e.point point o at is) x chose
       in
       Every-places (PathBelow n) Uses (path_conditions D e n on hs) 0 (paths D.specification.operations (first_system D) 0 point.operation (edge_variables n e) (riders_in on) (path_start e))
       (path-uses D e n on hs (omega arith) known vars arguments)

@@ -11,9 +11,9 @@ numbered_length f k [] = refl
 numbered_length f k (x ∷ xs) = ap suc (numbered_length f (suc k) xs)
 
 -- one after another
-pub total : {A B : Type 0} (F : A → ℕ) (f : ℕ → A → List B) → ((k : ℕ) (x : A) → length (f k x) ≡ F x) → (k : ℕ) (xs : List A) → length (concat_places f k xs) ≡ sum_by F xs
-total F f h k [] = refl
-total F f h k (x ∷ xs) = length-append (f k x) (concat_places f (suc k) xs) ∙ ap₂ (λ m n. m + n) (h k x) (total F f h (suc k) xs) ∙ sym (sum_by-cons F x xs)
+pub concat_places_length : {A B : Type 0} (F : A → ℕ) (f : ℕ → A → List B) → ((k : ℕ) (x : A) → length (f k x) ≡ F x) → (k : ℕ) (xs : List A) → length (concat_places f k xs) ≡ sum_by F xs
+concat_places_length F f h k [] = refl
+concat_places_length F f h k (x ∷ xs) = length-append (f k x) (concat_places f (suc k) xs) ∙ ap₂ (λ m n. m + n) (h k x) (concat_places_length F f h (suc k) xs) ∙ sym (sum_by-cons F x xs)
 
 pub total_mapped : {A B X : Type 0} (G : X → ℕ) (g : A → X) (f : ℕ → A → List B) → ((k : ℕ) (x : A) → length (f k x) ≡ G (g x)) → (k : ℕ) (xs : List A) → length (concat_places f k xs) ≡ sum_by G (map g xs)
 total_mapped G g f h k [] = refl
@@ -38,9 +38,9 @@ none_more : (m : ℕ) → 0 ≡ 0 * m
 none_more m = omega arith
 
 -- as many of each
-pub alike : {A B : Type 0} (m : ℕ) (f : ℕ → A → List B) → ((k : ℕ) (x : A) → length (f k x) ≡ m) → (k : ℕ) (xs : List A) → length (concat_places f k xs) ≡ length xs * m
-alike m f h k [] = none_more m
-alike m f h k (x ∷ xs) = length-append (f k x) (concat_places f (suc k) xs) ∙ ap₂ (λ a b. a + b) (h k x) (alike m f h (suc k) xs) ∙ once_more (length xs) m
+pub concat_alike_length : {A B : Type 0} (m : ℕ) (f : ℕ → A → List B) → ((k : ℕ) (x : A) → length (f k x) ≡ m) → (k : ℕ) (xs : List A) → length (concat_places f k xs) ≡ length xs * m
+concat_alike_length m f h k [] = none_more m
+concat_alike_length m f h k (x ∷ xs) = length-append (f k x) (concat_places f (suc k) xs) ∙ ap₂ (λ a b. a + b) (h k x) (concat_alike_length m f h (suc k) xs) ∙ once_more (length xs) m
 
 -- a sum over lists that are joined
 pub sum_joined : {A B : Type 0} (F : B → ℕ) (f : A → List B) (xs : List A) → sum_by F (concat_map f xs) ≡ sum_by (λ x. sum_by F (f x)) xs

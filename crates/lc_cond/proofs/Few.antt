@@ -20,7 +20,7 @@ use Rattle.lc_outline.specs.Development.{Development, Outline, first_system, inv
 use Rattle.lc_outline.specs.Limits.{is_limited, on_is_limited, outlines_are_limited}
 use Rattle.lc_outline.specs.Resolved.{IsBelow, is_resolved}
 use Rattle.lc_outline.specs.Sizes.{sizes_of, count}
-use Rattle.lc_outline.proofs.Resolving.{resolved}
+use Rattle.lc_outline.proofs.Resolving.{passed_is_resolved}
 use Rattle.lc_kernel.proofs.InUse.{formula_below-more}
 use Rattle.lc_cond.specs.Conditions as S
 use Rattle.lc_cond.specs.Conditions.{idle_frame, body_frame, start_conditions, entry_conditions, edge_conditions, point_stability, idle_stability, stable_conditions, conditions}
@@ -101,13 +101,13 @@ past_points n (x ∷ ps) (suc j) m o e = past_points (suc n) ps j m o e
 
 module _ (D : Development) (h : is_resolved D ≡ true) where
   pub operation_limited : (k : ℕ) (o : O.Operation) → slice_get D.object.operations k ≡ Some o → has_limits o ≡ true
-  operation_limited k o e = limited_at D.object 0 D.object.operations (operations_pass D.object (resolved D h).object) k o e
+  operation_limited k o e = limited_at D.object 0 D.object.operations (operations_pass D.object (passed_is_resolved D h).object) k o e
 
   pub part_limited : (es : List Edge) (k : ℕ) (p : Part) → slice_get (parts_along D es) k ≡ Some (part_of p) → HasLimits p
   part_limited es k Start e = tt
   part_limited es zero (Begin number body) e = cc
   part_limited es (suc k) (Begin number body) e =
-      begun D.object 0 D.object.operations _ (operations_pass D.object (resolved D h).object) (past_edges es _ (past_points 0 D.object.points)) k number.0 (operation_of body.now) e
+      begun D.object 0 D.object.operations _ (operations_pass D.object (passed_is_resolved D h).object) (past_edges es _ (past_points 0 D.object.points)) k number.0 (operation_of body.now) e
   part_limited es k (Pass edge) e = tt
   part_limited es k (Stay number point) e = tt
   part_limited es k StayIdle e = tt
@@ -118,7 +118,7 @@ module _ (D : Development) (h : is_resolved D ≡ true) where
   counts_tested : limits_tested ≡ true
   counts_tested =
       left_true limits_tested (list_all (is_array D.object) D.object.arrays)
-      (left_true _ (are_operations D.object 0 D.object.operations) (left_true _ (list_all (is_point D.object) D.object.points) (resolved D h).object))
+      (left_true _ (are_operations D.object 0 D.object.operations) (left_true _ (list_all (is_point D.object) D.object.points) (passed_is_resolved D h).object))
 
   pub operations_few : length D.object.operations ≤ operation_limit
   operations_few =
@@ -131,7 +131,7 @@ module _ (D : Development) (h : is_resolved D ≡ true) where
 
   -- a declared action, which has three parameters at most
   pub action_few : (k : ℕ) (a : Action) → slice_get D.actions k ≡ Some a → TakesFew a
-  action_few k a e = (let three = every_at (λ (x : Action). length x.parameters ≤ parameter_limit) D.actions k a (resolved D h).parameters e in omega (arith, three))
+  action_few k a e = (let three = every_at (λ (x : Action). length x.parameters ≤ parameter_limit) D.actions k a (passed_is_resolved D h).parameters e in omega (arith, three))
 
 -- ---- conditions
 
@@ -197,7 +197,7 @@ module _ (D : Development) (h : is_resolved D ≡ true) (t : is_limited D ≡ tr
   -- the conditions at the start
   pub starts_few : length (invariant_of D) + length D.idle ≤ condition_limit
   starts_few =
-      (let size = start_sized D (resolved D h) in
+      (let size = start_sized D (passed_is_resolved D h) in
       let a = length-append (start_conditions D) (entries ++ (passes ++ (stays ++ idle_stability D))) in
       let all = conditions_few in
       omega (arith, size, a, all))
@@ -205,7 +205,7 @@ module _ (D : Development) (h : is_resolved D ≡ true) (t : is_limited D ≡ tr
   -- that what holds of idle clients stays, under each action
   pub idle_stays_few : length D.idle * (length D.actions + 2) ≤ condition_limit
   idle_stays_few =
-      (let size = stable_length D (resolved D h) None 2 (idle_frame (first_system D)) D.idle in
+      (let size = stable_length D (passed_is_resolved D h) None 2 (idle_frame (first_system D)) D.idle in
       let all = stays_few in
       subst (λ n. n ≤ condition_limit) size (omega (arith, all)))
 
@@ -228,7 +228,7 @@ module _ (D : Development) (h : is_resolved D ≡ true) (t : is_limited D ≡ tr
       of : (point : O.Point) (o : O.Operation) → slice_get D.object.points p ≡ Some point → slice_get D.object.operations point.operation ≡ Some o → length (asserts_at D p) * (length D.actions + 2) ≤ condition_limit
       of point o at is =
           (let size = ap (λ x. length (in_operation (λ q operation. stable_conditions D (Some p) (variable_count operation) (body_frame (first_system D) q (length operation.arguments)) (asserts_at D p)) point.operation x)) is
-          ∙ stable_length D (resolved D h) (Some p) (variable_count o) (body_frame (first_system D) point.operation (length o.arguments)) (asserts_at D p) in
+          ∙ stable_length D (passed_is_resolved D h) (Some p) (variable_count o) (body_frame (first_system D) point.operation (length o.arguments)) (asserts_at D p) in
           let one = place_within (point_stability D) 0 D.object.points p point at in
           let same : 0 + p ≡ p = omega arith in
           let here = ap (λ k. length (point_stability D k point)) same in
@@ -240,7 +240,7 @@ module _ (D : Development) (h : is_resolved D ≡ true) (t : is_limited D ≡ tr
           (let none = ap (λ x. length (asserts_in x) * (length D.actions + 2)) (none_behind D.object.points D.outlines p (paths_few D t) at) in
           subst (λ n. n ≤ condition_limit) (sym none) (omega arith))
       by (Some point) at =
-          (let f = found point (slice_get D.object.operations point.operation) (at_all (is_point D.object) D.object.points p point (right_true _ _ (resolved D h).object) at) in of point f.0 at f.1)
+          (let f = found point (slice_get D.object.operations point.operation) (at_all (is_point D.object) D.object.points p point (right_true _ _ (passed_is_resolved D h).object) at) in of point f.0 at f.1)
 
   -- what is asserted at a point uses no more variables than code may have
   pub asserts_below : (p : ℕ) → Every (IsBelow code_variable_limit) (asserts_at D p)
@@ -249,9 +249,9 @@ module _ (D : Development) (h : is_resolved D ≡ true) (t : is_limited D ≡ tr
       by : (k : Option O.Point) → slice_get D.object.points p ≡ k → Every (IsBelow code_variable_limit) (asserts_at D p)
       by None at = subst (λ x. Every (IsBelow code_variable_limit) (asserts_in x)) (sym (none_behind D.object.points D.outlines p (paths_few D t) at)) tt
       by (Some point) at =
-          (let f = found point (slice_get D.object.operations point.operation) (at_all (is_point D.object) D.object.points p point (right_true _ _ (resolved D h).object) at) in
-          below_more (variable_count f.0) code_variable_limit (asserts_at D p) (variables_few f.0 (operation_limited D h point.operation f.0 f.1)) ((resolved D h).asserts p point f.0 at f.1))
+          (let f = found point (slice_get D.object.operations point.operation) (at_all (is_point D.object) D.object.points p point (right_true _ _ (passed_is_resolved D h).object) at) in
+          below_more (variable_count f.0) code_variable_limit (asserts_at D p) (variables_few f.0 (operation_limited D h point.operation f.0 f.1)) ((passed_is_resolved D h).asserts p point f.0 at f.1))
 
   -- and what holds of idle clients
   pub idle_below : Every (IsBelow code_variable_limit) D.idle
-  idle_below = below_more 2 code_variable_limit D.idle (omega arith) (resolved D h).idle
+  idle_below = below_more 2 code_variable_limit D.idle (omega arith) (passed_is_resolved D h).idle

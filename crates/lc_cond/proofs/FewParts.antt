@@ -25,7 +25,7 @@ use Rattle.lc_outline.specs.Development.{Development, On, first_system, on_at, a
 use Rattle.lc_outline.specs.Limits.{IsLimited, is_limited}
 use Rattle.lc_outline.specs.Resolved.{is_resolved}
 use Rattle.lc_outline.specs.Sizes.{asked_of, returned}
-use Rattle.lc_outline.proofs.Resolving.{resolved}
+use Rattle.lc_outline.proofs.Resolving.{passed_is_resolved}
 use Rattle.lc_cond.specs.Adding.{Adds}
 use Rattle.lc_cond.specs.Conditions as S
 use Rattle.lc_cond.specs.Conditions.{idle_frame, body_frame, body_hypotheses, path_conditions, edge_conditions_in, edge_conditions, stable_conditions, point_stability, conditions_in}
@@ -35,10 +35,10 @@ use Rattle.lc_cond.specs.PartView.{parts_along}
 use Rattle.lc_cond.specs.declared.condition.Condition.{Condition}
 use Rattle.lc_table.specs.NodeTables.{Table}
 use Rattle.lc_cond.proofs.Adding.{adds_to_none}
-use Rattle.lc_cond.proofs.Counts.{numbered_length, total}
+use Rattle.lc_cond.proofs.Counts.{numbered_length, concat_places_length}
 use Rattle.lc_cond.proofs.Few.{operations_few, points_few, starts_few, idle_stays_few, asserts_stay_few}
 use Rattle.lc_cond.proofs.Numbered.{stands_within}
-use Rattle.lc_cond.proofs.Sized.{noting, observed, owed, acted_size, on_size, path_size, path_length, entry_sized, start_sized, stable_length}
+use Rattle.lc_cond.proofs.Sized.{noting, length_of_observing, length_of_mark_duties, acted_size, on_size, path_size, path_length, entry_sized, start_sized, stable_length}
 use Rattle.lc_cond.proofs.Stored.{absent, changed}
 
 -- ---- lists
@@ -120,7 +120,7 @@ module _ (ops : List Q.Operation) (first : ℕ) where
       let g = told p.columns υ b.guard in
       let owes = observing_duty ops first n k (p.facts ++ g ∷ []) b in
       let longer = length-append p.duties owes in
-      let extra = observed ops first n k (p.facts ++ g ∷ []) b in
+      let extra = length_of_observing ops first n k (p.facts ++ g ∷ []) b in
       (omega (arith, h, longer, extra), branch_duties n k υ bs (with_fact p (Not g)) m h)
 
   deed_duties : (n o : ℕ) (τ : List Term) (d : Deed) (p : Path) (m : ℕ) → length p.duties + 3 ≤ m → Every (HasDuties m) (deed_paths ops first n o τ d p)
@@ -132,7 +132,7 @@ module _ (ops : List Q.Operation) (first : ℕ) where
       let υ = branch_variables p.columns first (arity ops (marked_op o k)) c (map said (given_in by)) in
       let owes = mark_duties ops first n k p c υ bs in
       let longer = length-append p.duties owes in
-      let extra = owed ops first n k p c υ bs in
+      let extra = length_of_mark_duties ops first n k p c υ bs in
       let three = asked_few k in
       branch_duties n k υ bs (record p { duties = p.duties ++ owes }) m (omega (arith, h, longer, extra, three))
 
@@ -168,11 +168,11 @@ returned_few (Some q) = omega arith
 -- ---- the conditions of a part
 
 module _ (D : Development) (h : is_resolved D ≡ true) (t : is_limited D ≡ true) (limits : IsLimited D) where
-  acted_few : (σ : ℕ → Column) (ts : List Term) (a : Option Action) → acted_size D (resolved D h) σ ts a ≤ 13 + first_system D
+  acted_few : (σ : ℕ → Column) (ts : List Term) (a : Option Action) → acted_size D (passed_is_resolved D h) σ ts a ≤ 13 + first_system D
   acted_few σ ts None = omega arith
   acted_few σ ts (Some a) = (let few = changed_few 0 (column_count (first_system D)) σ (post_columns a (Variable 1) ts) in omega (arith, few))
 
-  on_few : (σ : ℕ → Column) (x : Option On) → on_size D (resolved D h) σ x ≤ 13 + first_system D
+  on_few : (σ : ℕ → Column) (x : Option On) → on_size D (passed_is_resolved D h) σ x ≤ 13 + first_system D
   on_few σ None = omega arith
   on_few σ (Some x) = acted_few σ x.arguments (slice_get D.actions x.action)
 
@@ -186,7 +186,7 @@ module _ (D : Development) (h : is_resolved D ≡ true) (t : is_limited D ≡ tr
   asserts_to_few (Some q) = asserts_few q
   asserts_to_few None = (let start = starts_few D h t in omega (arith, start))
 
-  path_few : (e : Edge) (on : Option On) (p : Path) → HasDuties (3 * rider_limit) p → path_size D (resolved D h) e on p ≤ 3 * condition_limit
+  path_few : (e : Edge) (on : Option On) (p : Path) → HasDuties (3 * rider_limit) p → path_size D (passed_is_resolved D h) e on p ≤ 3 * condition_limit
   path_few e on p duties =
       (let returns = returned_few e.next in
       let start = starts_few D h t in
@@ -210,9 +210,9 @@ module _ (D : Development) (h : is_resolved D ≡ true) (t : is_limited D ≡ tr
           let few = limits.paths e.point point e.kind at (first_system D) 0 (edge_variables v e) (path_start e) in
           let duties : Every (HasDuties (3 * rider_limit)) ps =
           path_duties D.specification.operations (first_system D) 0 point.operation (edge_variables v e) (riders_in on) (path_start e) (3 * rider_limit) (omega (arith, riders)) in
-          let each = every_more (HasDuties (3 * rider_limit)) (λ p. path_size D (resolved D h) e on p ≤ 3 * condition_limit) (path_few e on) ps duties in
-          let size = total (path_size D (resolved D h) e on) (path_conditions D e v on hs) (λ j p. path_length D (resolved D h) e v on hs j p) 0 ps in
-          let all = sum_few (path_size D (resolved D h) e on) (3 * condition_limit) ps each in
+          let each = every_more (HasDuties (3 * rider_limit)) (λ p. path_size D (passed_is_resolved D h) e on p ≤ 3 * condition_limit) (path_few e on) ps duties in
+          let size = concat_places_length (path_size D (passed_is_resolved D h) e on) (path_conditions D e v on hs) (λ j p. path_length D (passed_is_resolved D h) e v on hs j p) 0 ps in
+          let all = sum_few (path_size D (passed_is_resolved D h) e on) (3 * condition_limit) ps each in
           subst (λ n. n ≤ part_size_limit) (sym size) (omega (arith, few, all)))
 
       at_point : (x : Option O.Point) → slice_get D.object.points e.point ≡ x → length (in_body D.object (λ o operation. edge_conditions_in D o operation e) x) ≤ part_size_limit
@@ -225,18 +225,18 @@ module _ (D : Development) (h : is_resolved D ≡ true) (t : is_limited D ≡ tr
       of : (x : Option O.Operation) → length (in_operation (λ o operation. stable_conditions D (Some p) (variable_count operation) (body_frame (first_system D) o (length operation.arguments)) (asserts_at D p)) point.operation x) ≤ part_size_limit
       of None = omega arith
       of (Some operation) =
-          (let size = stable_length D (resolved D h) (Some p) (variable_count operation) (body_frame (first_system D) point.operation (length operation.arguments)) (asserts_at D p) in
+          (let size = stable_length D (passed_is_resolved D h) (Some p) (variable_count operation) (body_frame (first_system D) point.operation (length operation.arguments)) (asserts_at D p) in
           let few = asserts_stay_few D h t p in
           subst (λ n. n ≤ part_size_limit) (sym size) (omega (arith, few)))
 
   pub part_few : (p : S.Part) → length (conditions_in D p) ≤ part_size_limit
-  part_few S.Start = (let size = start_sized D (resolved D h) in let few = starts_few D h t in omega (arith, size, few))
+  part_few S.Start = (let size = start_sized D (passed_is_resolved D h) in let few = starts_few D h t in omega (arith, size, few))
   part_few (S.Begin o operation) =
-      (let size = entry_sized D (resolved D h) o operation in let start = starts_few D h t in let asserts = asserts_few operation.entry in omega (arith, size, start, asserts))
+      (let size = entry_sized D (passed_is_resolved D h) o operation in let start = starts_few D h t in let asserts = asserts_few operation.entry in omega (arith, size, start, asserts))
   part_few (S.Pass e) = edge_few e
   part_few (S.Stay p point) = point_few p point
   part_few S.StayIdle =
-      (let size = stable_length D (resolved D h) None 2 (idle_frame (first_system D)) D.idle in let few = idle_stays_few D h t in
+      (let size = stable_length D (passed_is_resolved D h) None 2 (idle_frame (first_system D)) D.idle in let few = idle_stays_few D h t in
       subst (λ n. n ≤ part_size_limit) (sym size) (omega (arith, few)))
 
   -- where they are made

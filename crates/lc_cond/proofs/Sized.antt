@@ -29,13 +29,13 @@ use Rattle.lc_rider.specs.Rider.{Marking, Own, Other, Note, Deed, Assign, Marks,
 use Rattle.lc_rider.specs.Paths.{Path, with_fact, edge_variables, path_start, observing_duty, mark_duties, branch_variables, mark_updates, marked_op, marked_client, branch_paths, deed_paths, deed_paths_where, rider_paths, paths}
 use Rattle.lc_outline.specs.Development.{Development, On, first_system, invariant_of, on_at, asserts_at, riders_in, all_actions, asserts_to, in_operation, in_body}
 use Rattle.lc_outline.specs.Resolved.{IsDeedResolved, IsRiderResolved, IsOnResolved, IsResolved, is_resolved}
-use Rattle.lc_outline.proofs.Resolving.{resolved}
+use Rattle.lc_outline.proofs.Resolving.{passed_is_resolved}
 use Rattle.lc_cond.specs.Stretches.{stable_from}
 use Rattle.lc_cond.specs.Conditions.{Init, InitIdle, Entry, First, Reply, Invariant, NextKind, Head, conditions_of, at_start, at_entry, on_path, alone_on_path, range, idle_frame, body_frame, justified, start_formula, start_conditions, entry_variables, entered, entry_conditions, at_end, reply_goals, is_base, column_condition, action_conditions, on_conditions, duty_condition, path_conditions, body_hypotheses, edge_conditions_in, edge_conditions, stable_under, stable_conditions, point_stability, idle_stability}
 use Rattle.lc_outline.specs.Sizes.{columns_of, stands, Way, asked_of, mark_way, deed_ways, no_way, ways_where, rider_ways, instance_count, way_count, edge_count, returned, ended_columns, columns_acted, edge_size, edge_sizes, assert_sizes}
 use Rattle.lc_cond.specs.Counted.{AreCounted}
 use Rattle.lc_cond.proofs.Stored.{and_true, not_either, puts_base, after_base, changed, columns_length, changed_different}
-use Rattle.lc_cond.proofs.Counts.{numbered_length, total, total_mapped, total_places, total_each, alike, sum_joined}
+use Rattle.lc_cond.proofs.Counts.{numbered_length, concat_places_length, total_mapped, total_places, total_each, concat_alike_length, sum_joined}
 
 -- ---- each element
 
@@ -82,15 +82,15 @@ noting Own = 0
 noting (Other t o) = 0
 noting Note = 1
 
-pub observed : (ops : List Q.Operation) (first n : ℕ) (k : Marking) (fs : List Formula) (b : Branch) → length (observing_duty ops first n k fs b) ≡ noting k
-observed ops first n Own fs b = refl
-observed ops first n (Other t o) fs b = refl
-observed ops first n Note fs b = refl
+pub length_of_observing : (ops : List Q.Operation) (first n : ℕ) (k : Marking) (fs : List Formula) (b : Branch) → length (observing_duty ops first n k fs b) ≡ noting k
+length_of_observing ops first n Own fs b = refl
+length_of_observing ops first n (Other t o) fs b = refl
+length_of_observing ops first n Note fs b = refl
 
-pub owed : (ops : List Q.Operation) (first n : ℕ) (k : Marking) (p : Path) (c : Term) (υ : List Term) (bs : List Branch) → length (mark_duties ops first n k p c υ bs) + noting k ≡ asked_of k
-owed ops first n Own p c υ bs = refl
-owed ops first n (Other t q) p c υ bs = refl
-owed ops first n Note p c υ bs = refl
+pub length_of_mark_duties : (ops : List Q.Operation) (first n : ℕ) (k : Marking) (p : Path) (c : Term) (υ : List Term) (bs : List Branch) → length (mark_duties ops first n k p c υ bs) + noting k ≡ asked_of k
+length_of_mark_duties ops first n Own p c υ bs = refl
+length_of_mark_duties ops first n (Other t q) p c υ bs = refl
+length_of_mark_duties ops first n Note p c υ bs = refl
 
 at_columns : (P : ℕ → Type 0) (cs : List ℕ) (ts : List Term) → Every P cs → Every P (columns_of (at_client cs ts))
 at_columns P [] ts h = tt
@@ -168,7 +168,7 @@ module _ (D : Development) (base : ℕ) (ends : List ℕ) where
         let owes = observing_duty ops first n k facts b in
         let q : Path = record { columns = after p.columns υ us; facts = facts; duties = p.duties ++ owes } in
         let longer = length-append p.duties owes in
-        let extra = observed ops first n k facts b in
+        let extra = length_of_observing ops first n k facts b in
         let fits : Fits q (a + asked_of k) (cs ++ columns_of us) = record {
           asked = omega (arith, longer, extra, e);
           stores = stores_more p q cs (columns_of us) h (after_base p.columns υ us);
@@ -204,7 +204,7 @@ module _ (D : Development) (base : ℕ) (ends : List ℕ) where
         let υ = branch_variables p.columns first (arity ops (marked_op o k)) c (map said (given_in by)) in
         let owes = mark_duties ops first n k p c υ bs in
         let longer = length-append p.duties owes in
-        let extra = owed ops first n k p c υ bs in
+        let extra = length_of_mark_duties ops first n k p c υ bs in
         let asked = h.asked in
         branch_sum n k υ bs (record p { duties = p.duties ++ owes }) a cs (omega (arith, longer, extra, asked)) h.stores h.below
         (chosen-every (λ (b : Branch). AllBelow (columns_of b.updates)) by (op_branches ops (marked_op o k)) (all (marked_op o k)))
@@ -413,7 +413,7 @@ module _ (D : Development) (R : IsResolved D) where
             ∙ not_either (stands c (columns_of e.updates)) (stands c ends) ∙ ap not (sym (list_any-append (λ k. k == c) (columns_of e.updates) ends));
         below = Every-append Low (columns_of e.updates) ends (every_in EdgeLow (edges D.object) (all_low 0 D.object.points) e i) (ended_low e.next);
       } in
-      total (path_size e on) (path_conditions D e v on (body_hypotheses D o operation e.point ++ e.facts)) (λ j p. path_length e v on (body_hypotheses D o operation e.point ++ e.facts) j p) 0
+      concat_places_length (path_size e on) (path_conditions D e v on (body_hypotheses D o operation e.point ++ e.facts)) (λ j p. path_length e v on (body_hypotheses D o operation e.point ++ e.facts) j p) 0
       (paths D.specification.operations (first_system D) 0 o (edge_variables v e) (riders_in on) (path_start e))
       ∙ path_sum D base ends (path_size e on) (columns_acted D on) (same e on base ends refl refl) branches_low 0 o (edge_variables v e) (riders_in on)
       (on_low (operation_at D.object e.point) e on (R.ons e i)) (path_start e) base (columns_of e.updates ++ ends) start
@@ -450,7 +450,7 @@ module _ (D : Development) (R : IsResolved D) where
   -- some conjuncts, under all actions
   pub stable_from_length : (point : Option ℕ) (n : ℕ) (hs : List Formula) (k : ℕ) (fs : List Formula) → length (stable_from D point n hs k fs) ≡ length fs * (length D.actions + 2)
   stable_from_length point n hs k fs =
-      alike (length D.actions + 2) (λ j f. numbered (stable_under D point n hs j f) 0 (all_actions D))
+      concat_alike_length (length D.actions + 2) (λ j f. numbered (stable_under D point n hs j f) 0 (all_actions D))
       (λ j f. numbered_length (stable_under D point n hs j f) 0 (all_actions D) ∙ actions_length) k fs
 
   pub stable_length : (point : Option ℕ) (n : ℕ) (frame asserts : List Formula) → length (stable_conditions D point n frame asserts) ≡ length asserts * (length D.actions + 2)
@@ -489,4 +489,4 @@ module _ (D : Development) (R : IsResolved D) where
 
 -- A development has as many conditions as its sizes come to
 pub are_counted : (D : Development) → is_resolved D ≡ true → AreCounted D
-are_counted D h = counted D (resolved D h)
+are_counted D h = counted D (passed_is_resolved D h)

@@ -32,6 +32,6 @@ none_left D ps k at =
     (ap (concat_map (conditions_in D)) past, ap length past)
 
 -- what is read is no part
-pub ended : (o : Option Part) (s : Option S.Part) → ((p : Part) → o ≡ Some p → ⊥) → option_map part_of o ≡ s → s ≡ None
-ended None s h e = sym e
-ended (Some p) s h e = absurd (h p refl)
+pub no_part_read : (o : Option Part) (s : Option S.Part) → ((p : Part) → o ≡ Some p → ⊥) → option_map part_of o ≡ s → s ≡ None
+no_part_read None s h e = sym e
+no_part_read (Some p) s h e = absurd (h p refl)

@@ -55,9 +55,9 @@ part_made d before after t ts texts texts' most most' part part' i n old past is
     }
 
 -- nothing is left but the line of the count
-pub counted : (d : Development) (before after : ConditionStream) (t : Table) (texts : FormulaTexts) (most : ℕ) (part : Vec Condition Global) (i n : ℕ) (old new : List ℕ) →
+pub only_count_left : (d : Development) (before after : ConditionStream) (t : Table) (texts : FormulaTexts) (most : ℕ) (part : Vec Condition Global) (i n : ℕ) (old new : List ℕ) →
     length part.items ≤ i → IsEnd d before after → new ≡ old ++ total_line n → new ≡ old ++ text_unwritten d (left before t texts most part i n)
-counted d before after t texts most part i n old new past is written =
+only_count_left d before after t texts most part i n old new past is written =
     let none : conditions_unwritten d (left before t texts most part i n) ≡ [] = ap (λ l. map (condition_in t) l ++ conditions_left d before) (drop_all i part.items past) ∙ is.nothing in
     let same : n ≡ n + 0 = omega arith in
     written ∙ ap (λ k. old ++ total_line k) same ∙ sym (ap (λ l. old ++ text_from d n l) none)

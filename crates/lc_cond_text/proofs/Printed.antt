@@ -3,12 +3,12 @@ use Rattle.std.proofs.Common.{refl}
 use Rattle.std.specs.Fmt.{digits}
 use Rattle.lc_cond_text.specs.CounterLines.{CounterIsPrinted, HelpersAreNamed, NotesObserve}
 
-pub lines : CounterIsPrinted
+pub counter_is_printed : CounterIsPrinted
 unfolding digits
-lines = refl
+counter_is_printed = refl
 
-pub named : HelpersAreNamed
-named = (refl, refl)
+pub helpers_are_named : HelpersAreNamed
+helpers_are_named = (refl, refl)
 
-pub observing : NotesObserve
-observing = refl
+pub notes_observe : NotesObserve
+notes_observe = refl

@@ -43,8 +43,8 @@ goes_on by d ts out ws text new vs us word h k e f g = record {
     grouped o w u v = simp append_assoc
 
 -- a text is written, and nothing more waits
-pub written : (by : Spelled) (d : ℕ) (ts : Table) (out : List ℕ) (ws : List Waiting) (text new : List ℕ) → AreWaiting ts ws → new ≡ out ++ text → GoesOn by d ts out ws text new ws
-written by d ts out ws text new h e = record {
+pub written_goes_on : (by : Spelled) (d : ℕ) (ts : Table) (out : List ℕ) (ws : List Waiting) (text new : List ℕ) → AreWaiting ts ws → new ≡ out ++ text → GoesOn by d ts out ws text new ws
+written_goes_on by d ts out ws text new h e = record {
   waits = h;
   joined = ap (λ l. l ++ waiting_text by d ts ws) e ∙ append_assoc out text (waiting_text by d ts ws);
 }

@@ -14,9 +14,9 @@ step-first None k ks c before mid after made rest = (mid, made, rest)
 step-first (Some halt) k ks c before mid after made rest = inr (mid, made, rest)
 
 -- a step that stops what is left of a script
-pub halted : (seen items : List Calls) (i : ℕ) (x : Calls) (h : Halt) (halt : Option Halt) (c d : ℕ) (before after : List Label) → seen ≡ items → i < length seen → x ≡ get_or seen i x → halt ≡ Some h → d ≡ c
+pub halted_step_played : (seen items : List Calls) (i : ℕ) (x : Calls) (h : Halt) (halt : Option Halt) (c d : ℕ) (before after : List Label) → seen ≡ items → i < length seen → x ≡ get_or seen i x → halt ≡ Some h → d ≡ c
     → HasMadeCalls halt (calls_of x) d before after → HasPlayed (Some h) (map calls_of (drop i items)) c before after
-halted seen items i x h halt c d before after same below is some client made =
+halted_step_played seen items i x h halt c d before after same below is some client made =
     subst (λ its. HasPlayed (Some h) (map calls_of (drop i its)) c before after) same
     (subst (λ ks. HasPlayed (Some h) (map calls_of ks) c before after) (sym (drop_more seen i x below ∙ ap (λ y. y ∷ drop (i + 1) seen) (sym is)))
     (inl (subst (λ e. HasMadeCalls (Some h) (calls_of x) e before after) client (subst (λ o. HasMadeCalls o (calls_of x) d before after) some made))))

@@ -64,10 +64,10 @@ mutual
   grows_among (in_first {H = H} {b = b} st) = let r = grows st in (b ++ r.0, r.1 ∙ append_assoc H b r.0)
   grows_among (in_later a) = grows_among a
 
-pub shows : (by : Spelled) (H : List S.Formula) (g : S.Formula) (v n u given : ℕ) (G : List S.Formula) (p q : P.Proof) (fs : List Formula) (reason text : List ℕ)
+pub goal_shows_state : (by : Spelled) (H : List S.Formula) (g : S.Formula) (v n u given : ℕ) (G : List S.Formula) (p q : P.Proof) (fs : List Formula) (reason text : List ℕ)
     → ((before : List S.Formula) (goal : S.Formula) (added : List S.Formula) → formulas_of fs ≡ before ++ goal ∷ added → length before ≡ given → text ≡ reason ++ shown_state by before goal added)
     → StandsGoal v H g p n u G q → formulas_of fs ≡ G → length H ≡ given → ShowsState by H g G text
-shows by H g v n u given G p q fs reason text written st same count =
+goal_shows_state by H g v n u given G p q fs reason text written st same count =
     let r = grows st in
     let all : G ≡ H ++ S.Not g ∷ r.0 = r.1 ∙ append_assoc H (S.Not g ∷ []) r.0 in
     record { added = r.0; reason = reason; all = all; text_is = written H (S.Not g) r.0 (same ∙ all) count }

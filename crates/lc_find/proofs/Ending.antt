@@ -130,8 +130,8 @@ unbudgeted_unfound D hs budget (Budget k) h zero =
 unbudgeted_unfound D hs budget (Large k) h zero = h.1 zero
 unbudgeted_unfound D hs budget OutOfMemory h zero = tt
 
-pub unfound : (D : Development) (hs : List Entry) (budget : ℕ) (fault : FindFault) → IsUnfound D hs budget fault → Finds D hs budget (Err fault)
-unfound D hs budget fault h = record {
+pub unfound_finds_fault : (D : Development) (hs : List Entry) (budget : ℕ) (fault : FindFault) → IsUnfound D hs budget fault → Finds D hs budget (Err fault)
+unfound_finds_fault D hs budget fault h = record {
   accepted = tt;
   range = range_unfound D hs budget fault h;
   without = without_unfound D hs budget fault h;

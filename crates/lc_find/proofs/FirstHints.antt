@@ -13,7 +13,7 @@ use Rattle.lc_cert.specs.Printed.{EntryReadsBack}
 use Rattle.lc_cond.specs.Conditions.{Condition, conditions}
 use Rattle.lc_check.proofs.LeastExtra.{at_first, at_other}
 use Rattle.lc_check.proofs.OneVerdict.{not_proved_and_not}
-use Rattle.lc_check.proofs.Walking.{split}
+use Rattle.lc_check.proofs.Walking.{conditions_done_due}
 use Rattle.lc_check.specs.Verdicts.{IsProved, IsUnproved, AreProved}
 use Rattle.lc_check.specs.Walking.{ProveInTurn, conditions_due, IsInTurn}
 use Rattle.lc_check.specs.declared.walk.Walk.{Walk}
@@ -28,7 +28,7 @@ at_seam (x ∷ cs) ds c = at_seam cs ds c
 
 next_at : (D : Development) (taken : List Entry) (w : Walk) (c : Condition) (cs : List Condition) → IsInTurn D taken w → conditions_due D w ≡ c ∷ cs → slice_get (conditions D) w.next ≡ Some c
 next_at D taken w c cs h due =
-    let all = split D taken w (c ∷ cs) h due in
+    let all = conditions_done_due D taken w (c ∷ cs) h due in
     subst (λ k. slice_get (conditions D) k ≡ Some c) (sym h.count) (subst (λ l. slice_get l (length h.done) ≡ Some c) (sym all) (at_seam h.done cs c))
 
 -- its first proof does not hold

@@ -10,7 +10,7 @@ use Rattle.lc_cert.specs.declared.entry.Entry as E
 use Rattle.lc_cond.specs.Conditions as S
 use Rattle.lc_cond.specs.Conditions.{conditions}
 use Rattle.lc_cond.specs.ConditionView.{condition_in}
-use Rattle.lc_check.proofs.Walking.{split, went_on, some_left, due_behind, next_due}
+use Rattle.lc_check.proofs.Walking.{conditions_done_due, went_on, some_left, due_behind, next_due}
 use Rattle.lc_check.specs.Walking.{ProveInTurn, conditions_due, HasNext, IsInTurn, IsAtDue, IsOneOn}
 use Rattle.lc_check.specs.declared.walk.Walk.{Walk}
 use Rattle.lc_find.proofs.FirstHints.{taken_below}
@@ -33,7 +33,7 @@ one_on_after D e old mid new at one =
 next_in_range : (D : Development) (taken : List Entry) (w : Walk) → HasNext w → IsInTurn D taken w → w.next < length (conditions D)
 next_in_range D taken w lt h =
     let (x, rest, is) = some_left w.part.items w.place lt in
-    let all = ap length (split D taken w (condition_in w.terms x ∷ due_behind D w.terms rest w) h (next_due D w x rest is)) in
+    let all = ap length (conditions_done_due D taken w (condition_in w.terms x ∷ due_behind D w.terms rest w) h (next_due D w x rest is)) in
     let size = length-append h.done (condition_in w.terms x ∷ due_behind D w.terms rest w) in
     let before = h.count in
     omega (arith, all, size, before)
@@ -60,7 +60,7 @@ none_taken D hs taken budget w new OutOfMemory h lt first hints taken' = tt
 -- ---- all proofs
 
 pub all_proved : (D : Development) (taken : List Entry) (w : Walk) → IsInTurn D taken w → conditions_due D w ≡ [] → ProveInTurn 0 taken (conditions D)
-all_proved D taken w h due = subst (ProveInTurn 0 taken) (sym (append-nil h.done) ∙ sym (split D taken w [] h due)) h.proved
+all_proved D taken w h due = subst (ProveInTurn 0 taken) (sym (append-nil h.done) ∙ sym (conditions_done_due D taken w [] h due)) h.proved
 
 -- as many proofs as conditions
 pub same_count : (k : ℕ) (es : List Entry) (cs : List S.Condition) → ProveInTurn k es cs → length es ≡ length cs

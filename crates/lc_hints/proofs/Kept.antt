@@ -6,7 +6,7 @@ use Rattle.lc_base.specs.Limits.{file_limit}
 use Rattle.lc_sexp.proofs.Items.{items_fit_lem}
 use Rattle.lc_sexp.specs.Parts.{fits_i64}
 use Rattle.lc_sexp.specs.Trees.{Tree, Trees, atom, list, none, ◌▸◌, item_count, item_count_of_all}
-use Rattle.lc_reading.proofs.Fine.{IfFine, anything, weaker, mapped_fine, both_fine, ended_fine, two_fine, behind_fine, of_fine}
+use Rattle.lc_reading.proofs.Fine.{IfFine, if_fine_unit, if_fine_weaker, mapped_fine, both_fine, ended_fine, two_fine, behind_fine, of_fine}
 use Rattle.lc_reading.specs.Files.{Says}
 use Rattle.lc_reading.specs.Readings.{Reading}
 use Rattle.lc_reading.specs.Rows.{each_reading}
@@ -52,13 +52,13 @@ module _ (names : Names) (P : Entry → Type 0) (Q : Proof → Type 0) (most : �
   use_fine : (n m : ℕ) (ts : Trees) → IfFine (use_reading names n m ts) IsGood
   use_fine n m none = tt
   use_fine n m (t ▸ ts) =
-      both_fine (λ z. Unit {0}) (λ us. Unit {0}) IsGood use_hint (number_reading m t) (terms_due names n (m + item_count t) ts) (anything (number_reading m t)) (anything (terms_due names n (m + item_count t) ts)) (λ z us a b. tt)
+      both_fine (λ z. Unit {0}) (λ us. Unit {0}) IsGood use_hint (number_reading m t) (terms_due names n (m + item_count t) ts) (if_fine_unit (number_reading m t)) (if_fine_unit (terms_due names n (m + item_count t) ts)) (λ z us a b. tt)
 
   cut_fine : (n m : ℕ) (ts : Trees) → IfFine (cut_reading names n m ts) IsGood
   cut_fine n m none = tt
   cut_fine n m (t ▸ none) = tt
   cut_fine n m (t ▸ u ▸ ts) =
-      mapped_fine (λ p. Unit {0}) IsGood cut_hint (cut_parts_reading names n m (t ▸ u ▸ ts)) (anything (cut_parts_reading names n m (t ▸ u ▸ ts))) (λ p a. tt)
+      mapped_fine (λ p. Unit {0}) IsGood cut_hint (cut_parts_reading names n m (t ▸ u ▸ ts)) (if_fine_unit (cut_parts_reading names n m (t ▸ u ▸ ts))) (λ p a. tt)
 
   by_fine : (n m : ℕ) (ts : Trees) → item_count_of_all ts ≤ most → IfFine (by_reading names n m ts) IsGood
   by_fine n m none few = tt
@@ -113,6 +113,6 @@ hints_sized D bytes hs (ts, reads, says) =
     let short = reads.size in
     let names = names_with (column_names D) in
     let proof : (n : ℕ) (t : Tree) → item_count t ≤ file_limit → IfFine (proof_reading names n t) (λ p. size p ≤ file_limit) =
-    λ n t less. weaker (λ p. size p ≤ item_count t) (λ p. size p ≤ file_limit) (proof_reading names n t) (λ p h. omega (arith, h, less)) (proof_sized names n t) in
+    λ n t less. if_fine_weaker (λ p. size p ≤ item_count t) (λ p. size p ≤ file_limit) (proof_reading names n t) (λ p h. omega (arith, h, less)) (proof_sized names n t) in
     let all = file_fine names IsSmall (λ p. size p ≤ file_limit) file_limit proof (λ k p small h. h) (item_count_of_all ts) 0 ts (omega (arith, few, short)) in
     every_joined IsSmall (λ (h : Hint). proof_offered h.advice h.number) hs (of_fine (Every (λ (h : Hint). Every IsSmall (proof_offered h.advice h.number))) (hints_reading D ts) hs all says)

@@ -17,7 +17,7 @@ use Rattle.lc_hist.specs.JsonValues.{all_in, event_in, entry_in}
 use Rattle.lc_hist.specs.WellFormed.{client_of}
 use Rattle.lc_hist.proofs.JsonAnswers.{no_form}
 use Rattle.lc_hist.proofs.JsonOnce.{SaysBy, IsWrongBy}
-use Rattle.lc_hist.proofs.JsonEvents.{AreOpen, table_by, table_next, next_event, take_front, open_next, follows, is_next, is_no_next, within_limit}
+use Rattle.lc_hist.proofs.JsonEvents.{AreOpen, table_by, table_next, next_event, take_front, open_next, may_follow_busy, is_next, is_no_next, within_limit}
 
 -- ---- events
 
@@ -49,7 +49,7 @@ behind_event : (operations : List Operation) (d : Data) (ds : List Data) → Onw
     → (e : Event) → event_in operations d ≡ Some e → (b : Bool) → may_follow operations (table_by before (client_of e)) e ≡ b → AreRightOrWrong operations (front ++ d ∷ ds)
 behind_event operations d ds onward front before are calls e form true may =
     let next = is_next operations before (table_by before) d e calls form (within_limit operations d e form) may in
-    let opened = open_next before (table_by before) (table_by (before ++ e ∷ [])) e calls (follows operations (table_by before (client_of e)) e may) (table_next before e) in
+    let opened = open_next before (table_by before) (table_by (before ++ e ∷ [])) e calls (may_follow_busy operations (table_by before (client_of e)) e may) (table_next before e) in
     subst (AreRightOrWrong operations) (append_assoc front (d ∷ []) ds) (onward (front ++ d ∷ []) (before ++ e ∷ []) (next_event operations [] front before d e are next) opened)
 behind_event operations d ds onward front before are calls e form false may_not =
     wrong_behind operations front d ds before are (is_no_next operations before (table_by before) d e calls form may_not)

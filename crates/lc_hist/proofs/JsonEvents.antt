@@ -13,7 +13,7 @@ use Rattle.lc_hist.specs.JsonHistories.{IsNext, AreNext, IsCounted}
 use Rattle.lc_hist.specs.JsonSeen.{may_follow, opened, number_of}
 use Rattle.lc_hist.specs.JsonValues.{values_in, client_in, client_within, is_word, numbers_in, call_in, invoke_from, respond_from, event_from, event_in, has_replies}
 use Rattle.lc_hist.specs.WellFormed.{client_of, begins, IsInTurn}
-use Rattle.lc_hist.proofs.Turns.{AreBusy, is_in_turn, is_out_of_turn, flip, busy_next}
+use Rattle.lc_hist.proofs.Turns.{AreBusy, is_in_turn, is_out_of_turn, eq_swapped, busy_next}
 use Rattle.lc_hist.proofs.JsonLists.{both_parts}
 
 -- after these events each client is in a call of the operation in the table
@@ -44,8 +44,8 @@ pending_next true p q = refl
 pending_next false p q = refl
 
 last_pending : (c : ℕ) (now : Option Call) (e : Event) → option_map (λ call. call.op) (pending_of c now (e ∷ [])) ≡ cond (c == client_of e) (opened e) (option_map (λ call. call.op) now)
-last_pending c now (Called d call) = pending_next (d == c) (Some call) now ∙ ap (λ b. cond b (Some call.op) (option_map (λ k. k.op) now)) (flip d c)
-last_pending c now (Replied d reply) = pending_next (d == c) None now ∙ ap (λ b. cond b None (option_map (λ k. k.op) now)) (flip d c)
+last_pending c now (Called d call) = pending_next (d == c) (Some call) now ∙ ap (λ b. cond b (Some call.op) (option_map (λ k. k.op) now)) (eq_swapped d c)
+last_pending c now (Replied d reply) = pending_next (d == c) None now ∙ ap (λ b. cond b None (option_map (λ k. k.op) now)) (eq_swapped d c)
 
 -- the operation in whose call each client is, by the events alone
 abbrev pub table_by : List Event → ℕ → Option ℕ
@@ -77,11 +77,11 @@ opens : (e : Event) → is_some (opened e) ≡ begins e
 opens (Called c call) = refl
 opens (Replied c reply) = refl
 
-pub follows : (operations : List Operation) (now : Option ℕ) (e : Event) → may_follow operations now e ≡ true → is_some now ≡ not (begins e)
-follows operations None (Called c call) h = refl
-follows operations None (Replied c reply) h = absurd cc
-follows operations (Some op) (Called c call) h = absurd cc
-follows operations (Some op) (Replied c reply) h = refl
+pub may_follow_busy : (operations : List Operation) (now : Option ℕ) (e : Event) → may_follow operations now e ≡ true → is_some now ≡ not (begins e)
+may_follow_busy operations None (Called c call) h = refl
+may_follow_busy operations None (Replied c reply) h = absurd cc
+may_follow_busy operations (Some op) (Called c call) h = absurd cc
+may_follow_busy operations (Some op) (Replied c reply) h = refl
 
 -- the table after one event more
 pub open_next : (events : List Event) (table next : ℕ → Option ℕ) (e : Event) → AreOpen events table → is_some (table (client_of e)) ≡ not (begins e)
@@ -108,7 +108,7 @@ pub is_next : (operations : List Operation) (events : List Event) (table : ℕ �
     → client_of e ≤ client_limit → may_follow operations (table (client_of e)) e ≡ true → IsNext operations events d e
 is_next operations events table d e are form le may = record {
   form = form;
-  turn = is_in_turn events e (λ c. is_some (table c)) are.busy le (follows operations (table (client_of e)) e may);
+  turn = is_in_turn events e (λ c. is_some (table c)) are.busy le (may_follow_busy operations (table (client_of e)) e may);
   count = counted operations events table e are may;
 }
 

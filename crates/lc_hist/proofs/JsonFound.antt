@@ -38,8 +38,8 @@ mutual
 -- ---- a value
 
 -- what begins there is what is read there
-pub begun : (ts : List Token) (j : json.Json) → BeginsWith ts j → begun_at ts ≡ of_json j
-begun ts j (d, r, e) =
+pub begun_at_value : (ts : List Token) (j : json.Json) → BeginsWith ts j → begun_at ts ≡ of_json j
+begun_at_value ts j (d, r, e) =
     let spelled = value-json_tokens_back d ts r j e in
     let enough : depth j ≤ length ts = rw spelled (omega (arith, depth-tokens j, length-append (json_tokens j) r)) in
     ap (option_and_then (λ p. of_json p.0)) (ap (value (length ts)) spelled ∙ value-json_tokens j (length ts) r enough)
@@ -49,12 +49,12 @@ found_in ts None d e is = absurd cc
 found_in ts (Some p) d e is = (p.0, (length ts, p.1, e), is)
 
 -- if there is data, a value begins that says it
-pub found : (ts : List Token) → IsData ts → (j : json.Json) × BeginsWith ts j × (of_json j ≡ Some (data_at ts))
-found ts is = found_in ts _ (data_at ts) refl is
+pub data_has_value : (ts : List Token) → IsData ts → (j : json.Json) × BeginsWith ts j × (of_json j ≡ Some (data_at ts))
+data_has_value ts is = found_in ts _ (data_at ts) refl is
 
 -- a value that says data begins there
 pub is_data : (ts : List Token) (j : json.Json) (d : Data) → BeginsWith ts j → of_json j ≡ Some d → IsData ts × (data_at ts ≡ d)
-is_data ts j d begins says = let e : begun_at ts ≡ Some d = begun ts j begins ∙ says in (rw e refl, rw e refl)
+is_data ts j d begins says = let e : begun_at ts ≡ Some d = begun_at_value ts j begins ∙ says in (rw e refl, rw e refl)
 
 -- ---- the values of an array
 
@@ -96,8 +96,8 @@ read_items js d r enough =
     ∙ sym (value-begin_array (suc d) ts (omega arith)) ∙ value-json_tokens (json.array js) (suc d) r (omega arith))
 
 -- what is listed there is what is read there
-pub listed : (ts : List Token) (js : json.Items) → InItems ts js → listed_at ts ≡ option_map values_in (of_items js)
-listed ts js inside =
+pub listed_at_items : (ts : List Token) (js : json.Items) → InItems ts js → listed_at ts ≡ option_map values_in (of_items js)
+listed_at_items ts js inside =
     let s = spelled_items js ts inside in
     let spelled = s.1 in
     let enough : items_depth js ≤ length ts = rw spelled (omega (arith, items_depth-tokens js, length-append (items_tokens js) s.0)) in
@@ -115,7 +115,7 @@ found_items ts are = listed_in ts _ (values_at ts) refl are
 
 -- values that say data are listed there
 pub are_data : (ts : List Token) (js : json.Items) (ds : List Data) → InItems ts js → option_map values_in (of_items js) ≡ Some ds → AreData ts × (values_at ts ≡ ds)
-are_data ts js ds inside say = let e : listed_at ts ≡ Some ds = listed ts js inside ∙ say in (rw e refl, rw e refl)
+are_data ts js ds inside say = let e : listed_at ts ≡ Some ds = listed_at_items ts js inside ∙ say in (rw e refl, rw e refl)
 
 -- ---- the next value of an array
 
@@ -128,8 +128,8 @@ split_first (Some d) (Some is) ds e = (d, values_in is, refl, refl, cc)
 abbrev pub Passed : List Token → List Token → List Token → Type 0
 Passed old ts new = IsData ts × AreData new × (values_at old ≡ data_at ts ∷ values_at new)
 
-pub passed : (old ts new : List Token) → AreData old → NextItem old (Some ts) new → Passed old ts new
-passed old ts new are next =
+pub next_item_passed : (old ts new : List Token) → AreData old → NextItem old (Some ts) new → Passed old ts new
+next_item_passed old ts new are next =
     let f = found_items old are in
     let n = next f.0 f.1 in
     let s = split_first (of_json n.0) (of_items n.1) (values_at old) (ap (λ js. option_map values_in (of_items js)) (sym n.2) ∙ f.2) in
@@ -146,9 +146,9 @@ none_left old new are next =
 -- ---- what a value is
 
 -- what is under a constructor
-pub mapped : {A : Type 0} (f : A → Data) (o : Option A) (d : Data) → option_map f o ≡ Some d → (a : A) × (d ≡ f a) × (o ≡ Some a)
-mapped f None d e = absurd cc
-mapped f (Some a) d e = (a, cc, refl)
+pub some_under_map : {A : Type 0} (f : A → Data) (o : Option A) (d : Data) → option_map f o ≡ Some d → (a : A) × (d ≡ f a) × (o ≡ Some a)
+some_under_map f None d e = absurd cc
+some_under_map f (Some a) d e = (a, cc, refl)
 
 number_read : (o : Option Num) (d : Data) → option_map number o ≡ Some d → as_number d ≡ o
 number_read None d e = absurd cc
@@ -160,35 +160,35 @@ number_said json.null d e = let same : null ≡ d = cc in rw (← same) refl
 number_said (json.boolean b) d e = let same : boolean b ≡ d = cc in rw (← same) refl
 number_said (json.number s) d e = number_read (number_of s) d e
 number_said (json.string s) d e = let same : string s ≡ d = cc in rw (← same) refl
-number_said (json.array js) d e = let same = mapped array (of_items js) d e in rw same.1 refl
-number_said (json.object ms) d e = let same = mapped object (of_members ms no_members) d e in rw same.1 refl
+number_said (json.array js) d e = let same = some_under_map array (of_items js) d e in rw same.1 refl
+number_said (json.object ms) d e = let same = some_under_map object (of_members ms no_members) d e in rw same.1 refl
 
 -- its text
 pub text_said : (j : json.Json) (d : Data) → of_json j ≡ Some d → as_str d ≡ find.as_str j
 text_said json.null d e = let same : null ≡ d = cc in rw (← same) refl
 text_said (json.boolean b) d e = let same : boolean b ≡ d = cc in rw (← same) refl
-text_said (json.number s) d e = let same = mapped number (number_of s) d e in rw same.1 refl
+text_said (json.number s) d e = let same = some_under_map number (number_of s) d e in rw same.1 refl
 text_said (json.string s) d e = let same : string s ≡ d = cc in rw (← same) refl
-text_said (json.array js) d e = let same = mapped array (of_items js) d e in rw same.1 refl
-text_said (json.object ms) d e = let same = mapped object (of_members ms no_members) d e in rw same.1 refl
+text_said (json.array js) d e = let same = some_under_map array (of_items js) d e in rw same.1 refl
+text_said (json.object ms) d e = let same = some_under_map object (of_members ms no_members) d e in rw same.1 refl
 
 -- its values
 pub items_said : (j : json.Json) (d : Data) → of_json j ≡ Some d → as_array d ≡ option_and_then of_items (find.as_array j)
 items_said json.null d e = let same : null ≡ d = cc in rw (← same) refl
 items_said (json.boolean b) d e = let same : boolean b ≡ d = cc in rw (← same) refl
-items_said (json.number s) d e = let same = mapped number (number_of s) d e in rw same.1 refl
+items_said (json.number s) d e = let same = some_under_map number (number_of s) d e in rw same.1 refl
 items_said (json.string s) d e = let same : string s ≡ d = cc in rw (← same) refl
-items_said (json.array js) d e = let same = mapped array (of_items js) d e in rw same.1 (sym same.2)
-items_said (json.object ms) d e = let same = mapped object (of_members ms no_members) d e in rw same.1 refl
+items_said (json.array js) d e = let same = some_under_map array (of_items js) d e in rw same.1 (sym same.2)
+items_said (json.object ms) d e = let same = some_under_map object (of_members ms no_members) d e in rw same.1 refl
 
 -- its members
 pub members_said : (j : json.Json) (d : Data) → of_json j ≡ Some d → as_object d ≡ option_and_then (λ ms. of_members ms no_members) (find.as_object j)
 members_said json.null d e = let same : null ≡ d = cc in rw (← same) refl
 members_said (json.boolean b) d e = let same : boolean b ≡ d = cc in rw (← same) refl
-members_said (json.number s) d e = let same = mapped number (number_of s) d e in rw same.1 refl
+members_said (json.number s) d e = let same = some_under_map number (number_of s) d e in rw same.1 refl
 members_said (json.string s) d e = let same : string s ≡ d = cc in rw (← same) refl
-members_said (json.array js) d e = let same = mapped array (of_items js) d e in rw same.1 refl
-members_said (json.object ms) d e = let same = mapped object (of_members ms no_members) d e in rw same.1 (sym same.2)
+members_said (json.array js) d e = let same = some_under_map array (of_items js) d e in rw same.1 refl
+members_said (json.object ms) d e = let same = some_under_map object (of_members ms no_members) d e in rw same.1 (sym same.2)
 
 -- the values that are listed there are those of the array
 abbrev pub ArrayAt : List Token → List Token → Type 0
@@ -196,9 +196,9 @@ ArrayAt ts inside = AreData inside × (Some (values_at inside) ≡ option_map va
 
 pub array_at : (ts inside : List Token) → IsData ts → ((j : json.Json) → BeginsWith ts j → (js : json.Items) × (j ≡ json.array js) × InItems inside js) → ArrayAt ts inside
 array_at ts inside is opens =
-    let f = found ts is in
+    let f = data_has_value ts is in
     let o = opens f.0 f.1 in
-    let m = mapped array (of_items o.0) (data_at ts) (ap of_json (sym o.1) ∙ f.2) in
+    let m = some_under_map array (of_items o.0) (data_at ts) (ap of_json (sym o.1) ∙ f.2) in
     let listed : option_map values_in (of_items o.0) ≡ Some (values_in m.0) = ap (option_map values_in) m.2 in
     let are = are_data inside o.0 (values_in m.0) o.2 listed in
     (are.0, rw (m.1, are.1) refl)

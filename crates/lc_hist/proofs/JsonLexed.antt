@@ -54,9 +54,9 @@ pub passes_comma : (xs : List ℕ) → tokens_at AfterValue (44 ∷ xs) ≡ toke
 unfolding lex punctuate
 passes_comma xs = refl
 
-pub ends : tokens_at AfterValue [] ≡ []
+pub tokens_at_end : tokens_at AfterValue [] ≡ []
 unfolding lex punctuate
-ends = refl
+tokens_at_end = refl
 
 blank_byte : (c : Class) (x : ℕ) (xs : List ℕ) (k : Mode → List Lexeme) → is_blank c ≡ true → lex_byte between c x xs k ≡ k between
 blank_byte quote x xs k is = absurd cc
@@ -276,8 +276,8 @@ pub some_of : (n : ℕ) (z : ℤ) → z ≡ pos n → (of_z w64 z ≡ 0 → ⊥)
 some_of zero z is more = absurd (more (ap (of_z w64) is))
 some_of (suc n) z is more = omega arith
 
-pub negated : (n : ℕ) (z : ℤ) → n < 2 ^ 63 → z ≡ pos n → to_z w64 (of_z w64 (pos 0 -ℤ to_z w64 (of_z w64 z))) ≡ neg_ℤ (pos n)
-negated n z small is = omega (arith, ints)
+pub wrapped_negated : (n : ℕ) (z : ℤ) → n < 2 ^ 63 → z ≡ pos n → to_z w64 (of_z w64 (pos 0 -ℤ to_z w64 (of_z w64 z))) ≡ neg_ℤ (pos n)
+wrapped_negated n z small is = omega (arith, ints)
 
 -- ---- at a place of a text
 
@@ -296,7 +296,7 @@ at_end p text i lt is may = ap (tokens_at p) (here text i 93 lt is) ∙ closes_a
 pub at_last : (p : Place) (text : List ℕ) (i end : ℕ) → i < length text → get_or text i 0 ≡ 125 → closes_at p ≡ true → tokens_at AfterValue (drop end text) ≡ tokens_at AfterValue (drop (i + 1) text) → length text ≤ end
     → tokens_at p (drop i text) ≡ Token.end_object ∷ []
 at_last p text i end lt is may same past =
-    ap (tokens_at p) (here text i 125 lt is) ∙ closes_object p (drop (i + 1) text) may ∙ ap (λ ts. Token.end_object ∷ ts) (sym same ∙ ap (tokens_at AfterValue) (drop_all end text past) ∙ ends)
+    ap (tokens_at p) (here text i 125 lt is) ∙ closes_object p (drop (i + 1) text) may ∙ ap (λ ts. Token.end_object ∷ ts) (sym same ∙ ap (tokens_at AfterValue) (drop_all end text past) ∙ tokens_at_end)
 
 pub at_comma : (text : List ℕ) (i : ℕ) → i < length text → get_or text i 0 ≡ 44 → tokens_at AfterValue (drop i text) ≡ tokens_at AfterComma (drop (i + 1) text)
 at_comma text i lt is = ap (tokens_at AfterValue) (here text i 44 lt is) ∙ passes_comma (drop (i + 1) text)

@@ -4,9 +4,9 @@ use Rattle.std.specs.Prelude.{is_some}
 use Rattle.std.specs.Map.{lookup}
 use Rattle.std.specs.Option.{option_or}
 
-pub absent : {X : Type 0} (o : Option X) → is_some o ≡ false → o ≡ None
-absent None h = refl
-absent (Some x) h = absurd cc
+pub is_some_false : {X : Type 0} (o : Option X) → is_some o ≡ false → o ≡ None
+is_some_false None h = refl
+is_some_false (Some x) h = absurd cc
 
 first_of_two : {X : Type 0} (here there : Bool) (v w : X) (o : Option X) → cond here (Some v) (option_or o (cond there (Some w) None)) ≡ option_or (cond here (Some v) o) (cond there (Some w) None)
 first_of_two true there v w o = refl
@@ -23,8 +23,8 @@ counted_on n None = refl
 counted_on n (Some k) = ap Some (omega arith)
 
 -- one more name is noted
-pub noted : (here : Bool) (n : ℕ) (found p : Option ℕ) →
+pub or_found_name : (here : Bool) (n : ℕ) (found p : Option ℕ) →
     option_or (option_or found (cond here (Some n) None)) (option_map (λ k. n + 1 + k) p) ≡ option_or found (option_map (λ k. n + k) (cond here (Some 0) (option_map suc p)))
-noted here n (Some k) p = refl
-noted true n None p = ap Some (omega arith)
-noted false n None p = counted_on n p
+or_found_name here n (Some k) p = refl
+or_found_name true n None p = ap Some (omega arith)
+or_found_name false n None p = counted_on n p

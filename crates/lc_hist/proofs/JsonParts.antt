@@ -10,7 +10,7 @@ use Rattle.lc_hist.specs.JsonItems.{data_at, IsData}
 use Rattle.lc_hist.specs.JsonHistories.{parts_of}
 use Rattle.lc_hist.specs.JsonRecorded.{recorded_of}
 use Rattle.lc_hist.specs.JsonSeen.{members_with, HasNoParts}
-use Rattle.lc_hist.proofs.JsonFound.{found, is_data, members_said, mapped}
+use Rattle.lc_hist.proofs.JsonFound.{data_has_value, is_data, members_said, some_under_map}
 use Rattle.lc_hist.proofs.JsonMembers.{third_key}
 
 events_put : (d : Data) (events order : Option Data) → put (codes "events") d (members_with events order) ≡ members_with (Some d) order
@@ -33,14 +33,14 @@ Left members events order value = Behind members (members_with (option_map data_
 
 pub no_object : (value : List Token) → IsData value → ((j : json.Json) → BeginsWith value j → find.as_object j ≡ None) → HasNoParts (data_at value)
 no_object value is none =
-    let f = found value is in
+    let f = data_has_value value is in
     let said = members_said f.0 (data_at value) f.2 ∙ ap (option_and_then (λ ms. of_members ms no_members)) (none f.0 f.1) in
     (ap (option_and_then (parts_of (data_at value))) said, ap (option_and_then (recorded_of (data_at value))) said)
 
 -- at first all members are still to come
 pub all_left : (value members : List Token) → IsData value → ((j : json.Json) → BeginsWith value j → (ms : json.Members) × (j ≡ json.object ms) × InMembers members ms) → Left members None None value
 all_left value members is opens =
-    let f = found value is in
+    let f = data_has_value value is in
     let o = opens f.0 f.1 in
     (o.0, o.2, ap of_json (sym o.1) ∙ f.2)
 
@@ -83,7 +83,7 @@ module _ (old ts new value : List Token) (k : List ℕ) (events order : Option (
   third_next other another =
       let before = members_with (option_map data_at events) (option_map data_at order) in
       let t = (taken old ts new value k before left next).1 in
-      let m = mapped object (of_members t.0 (put k (data_at ts) before)) (data_at value) t.2 in
+      let m = some_under_map object (of_members t.0 (put k (data_at ts) before)) (data_at value) t.2 in
       subst HasNoParts (sym m.1) (third_key t.0 before m.0 k (data_at ts) other another m.2)
 
 -- if none is left, the value is an object of those that were found

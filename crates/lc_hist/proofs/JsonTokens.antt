@@ -53,8 +53,8 @@ says_client tokens s n rest None is of said = tt
 says_client tokens s n rest (Some c) is of said = (number n, said, begins_number tokens s n rest is of)
 
 -- more lists may nest
-pub wider : (levels more : ℕ) (tokens : List Token) (d : Data) (rest : List Token) → levels ≤ more → Begins levels tokens d rest → Begins more tokens d rest
-wider levels more tokens d rest le begins = record { reads = λ depth enough. begins.reads depth (omega arith) }
+pub begins_more_levels : (levels more : ℕ) (tokens : List Token) (d : Data) (rest : List Token) → levels ≤ more → Begins levels tokens d rest → Begins more tokens d rest
+begins_more_levels levels more tokens d rest le begins = record { reads = λ depth enough. begins.reads depth (omega arith) }
 
 -- a value takes a token
 pub begins-shorter : (levels : ℕ) (tokens : List Token) (d : Data) (rest : List Token) → Begins levels tokens d rest → length rest < length tokens

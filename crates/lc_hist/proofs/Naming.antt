@@ -8,11 +8,11 @@ use Rattle.lc_hist.specs.Tests.{IsCallOf, IsReplyOf, named, IsUnpreceded}
 use Rattle.lc_hist.specs.WellFormed.{IsWellFormed}
 use Rattle.lc_hist.specs.declared.spans.Span.{Span}
 use Rattle.lc_hist.proofs.Clients.{same_self}
-use Rattle.lc_hist.proofs.Places.{fewer}
+use Rattle.lc_hist.proofs.Places.{count_of_front}
 use Rattle.std.proofs.lemmas.Option.{slice_get_within}
 use Rattle.lc_hist.proofs.Order.{is_called, is_replied}
 use Rattle.lc_hist.proofs.Calls.{reply_in}
-use Rattle.lc_hist.proofs.Preceded.{late, preceded_where}
+use Rattle.lc_hist.proofs.Preceded.{preceded_is_late, preceded_where}
 
 -- the element that passes as the k-th is found at its place
 pub place_at : {A : Type 0} (test : A → Bool) (n : ℕ) (xs : List A) (i k : ℕ) (x : A) → slice_get xs i ≡ Some x → test x ≡ true → count test (take i xs) ≡ k
@@ -133,7 +133,7 @@ span_of-reply h c k call reply is at =
 began : (h : List Event) → IsWellFormed h → (c k i : ℕ) → IsPlace (is_return c) k h i → (j : ℕ) × (slice_get (places_from (is_call c) 0 h) k ≡ Some j)
 began h w c k i p =
     let turn = (w.in_turn i p.element p.stands).replied c (reply_in p.element) (is_replied c p.element p.passes) in
-    let few = fewer (is_call c) h i in
+    let few = count_of_front (is_call c) h i in
     element (places_from (is_call c) 0 h) k (omega (arith, turn, few, p.before, length-places_from (is_call c) 0 h))
 
 -- the parts of a span
@@ -158,7 +158,7 @@ entry_of_span order spans p s size at = let lt = slice_get_within spans p s at i
 -- a place that is reported as preceded is
 pub told_preceded : (h : List Event) (order : List Entry) (spans : List (Option Span)) (flags : List Bool) → AreNames h order spans flags → (p : ℕ) → is_preceded spans p ≡ true → IsUnpreceded h order p → ⊥
 told_preceded h order spans flags names p told free =
-    let l = late spans p told in
+    let l = preceded_is_late spans p told in
     let e = entry_of_span order spans p (Some l.this) names.places l.stands in
     let d = entry_of_span order spans l.later (Some l.other) names.places l.at in
     let this : span_of h e.0.client (named order p e.0) ≡ Some l.this = cc (names.found p e.0 e.1, l.stands) in

@@ -8,7 +8,7 @@ use Rattle.lc_hist.specs.WellFormed.{IsWellFormed}
 use Rattle.lc_hist.specs.Tests.{IsCallOf, IsReplyOf, named, NamesItsCall, HasItsReply, IsUnpreceded, IsComplete, PassesEach}
 use Rattle.lc_hist.specs.declared.reason.Reason.TheVariants.{OtherCall, OtherReply, MissingCall, NoStep, Preceded}
 use Rattle.lc_hist.proofs.Clients.{same_client, same_self}
-use Rattle.lc_hist.proofs.Places.{more}
+use Rattle.lc_hist.proofs.Places.{count_longer_front}
 use Rattle.lc_hist.proofs.Picked.{picked, length-picked, picked_at, Source, picked_from}
 use Rattle.lc_hist.proofs.Calls.{call_in, reply_in, calls_of, replies_of, TakesTurns, matching_are_calls, calls_match, matches_by_index, matching_call, matching_reply, matching_length}
 
@@ -101,7 +101,7 @@ returns_behind h w c k i j r b lt =
     let e : Event = r.element in
     let is : e ≡ Replied c (reply_in e) = is_replied c e r.passes in
     let turn = (w.in_turn i e r.stands).replied c (reply_in e) is in
-    let few = more (is_call c) h i j (omega arith) in
+    let few = count_longer_front (is_call c) h i j (omega arith) in
     omega (arith, turn, few, r.before, b.before)
 
 moved : (h : List Event) (c k d m a i b j : ℕ) → c ≡ a → k ≡ i → d ≡ b → m ≡ j → Precedes h c k d m → Precedes h a i b j

@@ -100,11 +100,11 @@ late_here (Some s) spans (Some r) is b =
     let e = earliest_is spans r is in
     record { later = suc e.place; this = s; other = e.span; returned = r; stands = refl; behind = omega arith; at = e.stands; returns = e.returned; before = ltb-true r s.called b }
 
-pub late : (spans : List (Option Span)) (p : ℕ) → is_preceded spans p ≡ true → IsLate spans p
-late [] p b = absurd cc
-late (s ∷ spans) zero b = late_here s spans (earliest_return spans) refl b
-late (s ∷ spans) (suc p) b =
-    let l = late spans p b in
+pub preceded_is_late : (spans : List (Option Span)) (p : ℕ) → is_preceded spans p ≡ true → IsLate spans p
+preceded_is_late [] p b = absurd cc
+preceded_is_late (s ∷ spans) zero b = late_here s spans (earliest_return spans) refl b
+preceded_is_late (s ∷ spans) (suc p) b =
+    let l = preceded_is_late spans p b in
     record { later = suc l.later; this = l.this; other = l.other; returned = l.returned; stands = l.stands; behind = omega (arith, l.behind); at = l.at; returns = l.returns; before = l.before }
 
 pub preceded_where : (spans : List (Option Span)) (p q : ℕ) (s t : Span) (r : ℕ) → slice_get spans p ≡ Some (Some s) → p < q → slice_get spans q ≡ Some (Some t) → t.returned ≡ Some r → r < s.called → is_preceded spans p ≡ true

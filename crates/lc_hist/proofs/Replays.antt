@@ -119,13 +119,13 @@ its_flag : (h : List Event) (order : List Entry) (spans : List (Option Span)) (f
     → is_preceded spans p ≡ flag
 its_flag h order spans flags p span flag names is there = cc (names.told p (slice_get_within spans p span is), there)
 
-pub unpreceded : (h : List Event) (order : List Entry) (spans : List (Option Span)) (flags : List Bool) (p : ℕ) (span : Option Span) (flag : Bool) → AreNames h order spans flags → slice_get spans p ≡ Some span → slice_get flags p ≡ Some flag
+pub unflagged_is_unpreceded : (h : List Event) (order : List Entry) (spans : List (Option Span)) (flags : List Bool) (p : ℕ) (span : Option Span) (flag : Bool) → AreNames h order spans flags → slice_get spans p ≡ Some span → slice_get flags p ≡ Some flag
     → flag ≡ false → IsUnpreceded h order p
-unpreceded h order spans flags p span flag names is there e = told_free h order spans flags names p (its_flag h order spans flags p span flag names is there ∙ e)
+unflagged_is_unpreceded h order spans flags p span flag names is there e = told_free h order spans flags names p (its_flag h order spans flags p span flag names is there ∙ e)
 
-pub preceded : (h : List Event) (order : List Entry) (spans : List (Option Span)) (flags : List Bool) (p : ℕ) (span : Option Span) (flag : Bool) → AreNames h order spans flags → slice_get spans p ≡ Some span → slice_get flags p ≡ Some flag
+pub flagged_is_preceded : (h : List Event) (order : List Entry) (spans : List (Option Span)) (flags : List Bool) (p : ℕ) (span : Option Span) (flag : Bool) → AreNames h order spans flags → slice_get spans p ≡ Some span → slice_get flags p ≡ Some flag
     → flag ≡ true → IsUnpreceded h order p → ⊥
-preceded h order spans flags p span flag names is there e = told_preceded h order spans flags names p (its_flag h order spans flags p span flag names is there ∙ e)
+flagged_is_preceded h order spans flags p span flag names is there e = told_preceded h order spans flags names p (its_flag h order spans flags p span flag names is there ∙ e)
 
 -- the tests at one more place are passed
 pub passes_next : {A : Type 0} (step : Sequential A) (start : A) (h : List Event) (order : List Entry) (p : ℕ) → p < length order → PassesBefore step start h order p
@@ -155,46 +155,46 @@ lesser step start h order p limit within names replies legal free NoStep lt test
 lesser step start h order p limit within names replies legal free Preceded lt tested = free lt
 
 -- an entry passes its tests
-pub passing : {A : Type 0} (step : Sequential A) (Fits : A → ℕ → Call → Choice → Type 0) (start : A) (h : List Event) (order : List Entry) (spans : List (Option Span)) (flags : List Bool) (p : ℕ) (e : Entry) (span : Option Span) (flag : Bool) (s t : A)
+pub checked_entry_passes : {A : Type 0} (step : Sequential A) (Fits : A → ℕ → Call → Choice → Type 0) (start : A) (h : List Event) (order : List Entry) (spans : List (Option Span)) (flags : List Bool) (p : ℕ) (e : Entry) (span : Option Span) (flag : Bool) (s t : A)
     → AreNames h order spans flags → PassesBefore step start h order p → Leads step start (take p order) s → FitsAlong step Fits start (take p order) → slice_get order p ≡ Some e → slice_get spans p ≡ Some span → slice_get flags p ≡ Some flag
     → IsChecked step Fits h span flag e s t (Ok None) → PassesBefore step start h order (p + 1) × Leads step start (take (p + 1) order) t × FitsAlong step Fits start (take (p + 1) order)
-passing step Fits start h order spans flags p e span flag s t names before leads fits at is told checked = (
+checked_entry_passes step Fits start h order spans flags p e span flag s t names before leads fits at is told checked = (
   passes_next step start h order p (slice_get_within order p e at) before
       (names_its_call h order spans flags p e span names at is checked.0)
       (has_its_reply h order spans flags p e span names at is checked.0 checked.1)
       (legal_next step start s t order p e at leads checked.3)
-      (unpreceded h order spans flags p span flag names is told checked.4),
+      (unflagged_is_unpreceded h order spans flags p span flag names is told checked.4),
   rw (add-one p) (leads_next step start s t order p e at leads checked.3),
   rw (add-one p) (fits_next step Fits start s order p e at leads fits checked.2),
 )
 
 -- an entry does not pass them
-pub failing : {A : Type 0} (step : Sequential A) (Fits : A → ℕ → Call → Choice → Type 0) (start : A) (h : List Event) (order : List Entry) (spans : List (Option Span)) (flags : List Bool) (p : ℕ) (e : Entry) (span : Option Span) (flag : Bool) (s t : A) (reason : Reason)
+pub checked_entry_fails : {A : Type 0} (step : Sequential A) (Fits : A → ℕ → Call → Choice → Type 0) (start : A) (h : List Event) (order : List Entry) (spans : List (Option Span)) (flags : List Bool) (p : ℕ) (e : Entry) (span : Option Span) (flag : Bool) (s t : A) (reason : Reason)
     → AreNames h order spans flags → PassesBefore step start h order p → Leads step start (take p order) s → slice_get order p ≡ Some e → slice_get spans p ≡ Some span → slice_get flags p ≡ Some flag
     → IsChecked step Fits h span flag e s t (Ok (Some reason)) → IsFirstFailure step start h order p reason
-failing step Fits start h order spans flags p e span flag s t OtherCall names before leads at is told checked = record {
+checked_entry_fails step Fits start h order spans flags p e span flag s t OtherCall names before leads at is told checked = record {
   tested = slice_get_within order p e at;
   fails = λ passed. checked (is_named h order spans flags p e span names at is passed);
   places = before;
   reasons = lesser step start h order p 1 (slice_get_within order p e at) (λ lt. absurd (omega arith)) (λ lt. absurd (omega arith)) (λ lt. absurd (omega arith)) (λ lt. absurd (omega arith));
 }
-failing step Fits start h order spans flags p e span flag s t OtherReply names before leads at is told checked = record {
+checked_entry_fails step Fits start h order spans flags p e span flag s t OtherReply names before leads at is told checked = record {
   tested = slice_get_within order p e at;
   fails = λ passed. checked.1 (is_replied h order spans flags p e span names at is checked.0 passed);
   places = before;
   reasons = lesser step start h order p 2 (slice_get_within order p e at) (λ lt. names_its_call h order spans flags p e span names at is checked.0) (λ lt. absurd (omega arith)) (λ lt. absurd (omega arith)) (λ lt. absurd (omega arith));
 }
-failing step Fits start h order spans flags p e span flag s t MissingCall names before leads at is told checked = absurd checked
-failing step Fits start h order spans flags p e span flag s t NoStep names before leads at is told checked = record {
+checked_entry_fails step Fits start h order spans flags p e span flag s t MissingCall names before leads at is told checked = absurd checked
+checked_entry_fails step Fits start h order spans flags p e span flag s t NoStep names before leads at is told checked = record {
   tested = slice_get_within order p e at;
   fails = λ passed. let taken = step_of_legal step start s order p e at leads passed in checked.3 taken.0 taken.1;
   places = before;
   reasons = lesser step start h order p 3 (slice_get_within order p e at) (λ lt. names_its_call h order spans flags p e span names at is checked.0)
       (λ lt. has_its_reply h order spans flags p e span names at is checked.0 checked.1) (λ lt. absurd (omega arith)) (λ lt. absurd (omega arith));
 }
-failing step Fits start h order spans flags p e span flag s t Preceded names before leads at is told checked = record {
+checked_entry_fails step Fits start h order spans flags p e span flag s t Preceded names before leads at is told checked = record {
   tested = slice_get_within order p e at;
-  fails = preceded h order spans flags p span flag names is told checked.4;
+  fails = flagged_is_preceded h order spans flags p span flag names is told checked.4;
   places = before;
   reasons = lesser step start h order p 4 (slice_get_within order p e at) (λ lt. names_its_call h order spans flags p e span names at is checked.0)
       (λ lt. has_its_reply h order spans flags p e span names at is checked.0 checked.1) (λ lt. legal_next step start s t order p e at leads checked.3) (λ lt. absurd (omega arith));
@@ -210,10 +210,10 @@ failing_fits step Fits start h order p e span flag s t NoStep leads fits at chec
 failing_fits step Fits start h order p e span flag s t Preceded leads fits at checked = fits_next step Fits start s order p e at leads fits checked.2
 
 -- a number does not fit when an entry's call is applied
-pub overflowing : {A : Type 0} (step : Sequential A) (Fits : A → ℕ → Call → Choice → Type 0) (start : A) (h : List Event) (order : List Entry) (spans : List (Option Span)) (flags : List Bool) (p : ℕ) (e : Entry) (span : Option Span) (flag : Bool) (s t : A)
+pub checked_entry_overflows : {A : Type 0} (step : Sequential A) (Fits : A → ℕ → Call → Choice → Type 0) (start : A) (h : List Event) (order : List Entry) (spans : List (Option Span)) (flags : List Bool) (p : ℕ) (e : Entry) (span : Option Span) (flag : Bool) (s t : A)
     → AreNames h order spans flags → PassesBefore step start h order p → Leads step start (take p order) s → FitsAlong step Fits start (take p order) → slice_get order p ≡ Some e → slice_get spans p ≡ Some span → slice_get flags p ≡ Some flag
     → IsChecked step Fits h span flag e s t (Err Overflow) → IsOverflow step Fits start h order p
-overflowing step Fits start h order spans flags p e span flag s t names before leads fits at is told checked = record {
+checked_entry_overflows step Fits start h order spans flags p e span flag s t names before leads fits at is told checked = record {
   entry = e;
   state = s;
   stands = at;
@@ -226,12 +226,12 @@ overflowing step Fits start h order spans flags p e span flag s t names before l
 }
 
 -- what a fault of the object is to the judge
-pub faulting : {A : Type 0} (step : Sequential A) (Fits : A → ℕ → Call → Choice → Type 0) (start : A) (h : List Event) (order : List Entry) (spans : List (Option Span)) (flags : List Bool) (p : ℕ) (e : Entry) (span : Option Span) (flag : Bool) (s t : A) (fault : SeqFault)
+pub checked_entry_faults : {A : Type 0} (step : Sequential A) (Fits : A → ℕ → Call → Choice → Type 0) (start : A) (h : List Event) (order : List Entry) (spans : List (Option Span)) (flags : List Bool) (p : ℕ) (e : Entry) (span : Option Span) (flag : Bool) (s t : A) (fault : SeqFault)
     → AreNames h order spans flags → PassesBefore step start h order p → Leads step start (take p order) s → FitsAlong step Fits start (take p order) → slice_get order p ≡ Some e → slice_get spans p ≡ Some span → slice_get flags p ≡ Some flag
     → IsChecked step Fits h span flag e s t (Err fault) → IsReplayed step Fits start h order (Err (judge_fault fault))
-faulting step Fits start h order spans flags p e span flag s t Overflow names before leads fits at is told checked =
-    (p, overflowing step Fits start h order spans flags p e span flag s t names before leads fits at is told checked)
-faulting step Fits start h order spans flags p e span flag s t OutOfMemory names before leads fits at is told checked = tt
+checked_entry_faults step Fits start h order spans flags p e span flag s t Overflow names before leads fits at is told checked =
+    (p, checked_entry_overflows step Fits start h order spans flags p e span flag s t names before leads fits at is told checked)
+checked_entry_faults step Fits start h order spans flags p e span flag s t OutOfMemory names before leads fits at is told checked = tt
 
 -- the places of a span that is found are places of the history
 pub within_history : (h : List Event) (c k : ℕ) → IsWithin (length h) (span_of h c k)
@@ -268,9 +268,9 @@ each_client : (P : Client → Type 0) (clients : List Client) (c : ℕ) (client 
 each_client P clients c client all at = subst P (get_or_from_slice_get clients c client client at) (all c client (slice_get_within clients c client at))
 
 -- whether an order is complete, by its clients
-pub complete : (h : List Event) (order : List Entry) (clients : List Client) → AreClients h clients → HaveSeen (λ c. count (is_of c) order) clients
+pub complete_by_clients : (h : List Event) (order : List Entry) (clients : List Client) → AreClients h clients → HaveSeen (λ c. count (is_of c) order) clients
     → All (λ client. length client.returns.items ≤ client.entries) clients → IsComplete h order
-complete h order clients are seen all c = by_client (slice_get clients c) refl
+complete_by_clients h order clients are seen all c = by_client (slice_get clients c) refl
   where
     by_client : (o : Option Client) → slice_get clients c ≡ o → count (is_return c) h ≤ count (is_of c) order
     by_client None at =
@@ -299,9 +299,9 @@ passes_each step start h order before whole NoStep p tested = before p NoStep te
 passes_each step start h order before whole Preceded p tested = before p Preceded tested tested
 
 -- if only a returned call is missing
-pub missing : {A : Type 0} (step : Sequential A) (start : A) (h : List Event) (order : List Entry) (place : ℕ) → place ≡ length order → PassesBefore step start h order (length order) → (IsComplete h order → ⊥)
+pub incomplete_misses_call : {A : Type 0} (step : Sequential A) (start : A) (h : List Event) (order : List Entry) (place : ℕ) → place ≡ length order → PassesBefore step start h order (length order) → (IsComplete h order → ⊥)
     → IsFirstFailure step start h order place MissingCall
-missing step start h order place last before lacks = record {
+incomplete_misses_call step start h order place last before lacks = record {
   tested = last;
   fails = lacks;
   places = subst (λ n. PassesBefore step start h order n) (sym last) before;
@@ -315,15 +315,15 @@ missing step start h order place last before lacks = record {
     none_else NoStep lt tested = absurd (omega arith)
     none_else Preceded lt tested = absurd (omega arith)
 
-pub seam : {A : Type 0} (n : ℕ) (xs ys : List A) → n ≡ length xs → take n (xs ++ ys) ≡ xs
-seam n xs ys e = ap (λ k. take k (xs ++ ys)) e ∙ take-append_seam xs ys
+pub take_of_joined : {A : Type 0} (n : ℕ) (xs ys : List A) → n ≡ length xs → take n (xs ++ ys) ≡ xs
+take_of_joined n xs ys e = ap (λ k. take k (xs ++ ys)) e ∙ take-append_seam xs ys
 
 -- what is returned if the entries pass and the clients are complete
 pub all_pass : {A : Type 0} (step : Sequential A) (Fits : A → ℕ → Call → Choice → Type 0) (start : A) (h : List Event) (order : List Entry) (clients : List Client)
     → IsWellFormed h → AreClients h clients → HaveSeen (λ c. count (is_of c) order) clients → PassesBefore step start h order (length order) × FitsAlong step Fits start order
     → All (λ client. length client.returns.items ≤ client.entries) clients → Linearizes step start h order × FitsAlong step Fits start order
 all_pass step Fits start h order clients w are seen known all = (
-  linearizes_where_passed step start h order w (passes_each step start h order known.0 (complete h order clients are seen all)),
+  linearizes_where_passed step start h order w (passes_each step start h order known.0 (complete_by_clients h order clients are seen all)),
   known.1,
 )
 
@@ -334,7 +334,7 @@ pub some_missing : {A : Type 0} (step : Sequential A) (Fits : A → ℕ → Call
     → IsFirstFailure step start h order place MissingCall × (Linearizes step start h order → ⊥) × FitsAlong step Fits start (take place order)
 some_missing step Fits start h order clients place w are seen known lacks last =
     let absent : IsComplete h order → ⊥ = λ whole. lacks (each_complete h order clients are seen whole) in (
-      missing step start h order place last known.0 absent,
+      incomplete_misses_call step start h order place last known.0 absent,
       λ l. absent (passed_where_linearizes step start h order w l MissingCall (length order) refl),
       subst (FitsAlong step Fits start) (sym (ap (λ n. take n order) last ∙ take_whole order)) known.1,
     )

@@ -11,8 +11,8 @@ use Rattle.lc_hist.specs.View.{event_of, events_of}
 use Rattle.lc_hist.specs.declared.event.Event as R
 use Rattle.lc_hist.proofs.Clients.{same_client}
 
-pub flip : (c d : ℕ) → (c == d) ≡ (d == c)
-flip c d =
+pub eq_swapped : (c d : ℕ) → (c == d) ≡ (d == c)
+eq_swapped c d =
     elim (eqb_tells c d) [
       | inl h ↦ subst (λ z. (c == z) ≡ (z == c)) h.1 refl
       | inr h ↦ elim (eqb_tells d c) [ inl k ↦ absurd (h.1 (sym k.1)) | inr k ↦ h.0 ∙ sym k.0 ]
@@ -41,17 +41,17 @@ AreBusy h busy = (c : ℕ) → count (is_call c) h ≡ cond (busy c) (suc (count
 abbrev pub IsFront : List Event → ℕ → Type 0
 IsFront h n = (j : ℕ) (e : Event) → j < n → slice_get h j ≡ Some e → IsInTurn (take j h) e
 
-pub differ : (a b : Bool) → beq a b ≡ false → a ≡ not b
-differ true true h = absurd cc
-differ true false h = refl
-differ false true h = refl
-differ false false h = absurd cc
+pub beq_false_not : (a b : Bool) → beq a b ≡ false → a ≡ not b
+beq_false_not true true h = absurd cc
+beq_false_not true false h = refl
+beq_false_not false true h = refl
+beq_false_not false false h = absurd cc
 
-pub agree : (a b : Bool) → beq a b ≡ true → a ≡ b
-agree true true h = refl
-agree true false h = absurd cc
-agree false true h = absurd cc
-agree false false h = refl
+pub beq_true_same : (a b : Bool) → beq a b ≡ true → a ≡ b
+beq_true_same true true h = refl
+beq_true_same true false h = absurd cc
+beq_true_same false true h = absurd cc
+beq_true_same false false h = refl
 
 pub is_in_turn : (h : List Event) (e : Event) (busy : ℕ → Bool) → AreBusy h busy → client_of e ≤ client_limit → busy (client_of e) ≡ not (begins e) → IsInTurn h e
 is_in_turn h (Called d call) busy are le is = record {
@@ -128,9 +128,9 @@ step_busy : (h : List Event) (c : ℕ) (busy : ℕ → Bool) (e : Event) → bus
     (suc (cond (is_return c e) (suc (count (is_return c) h)) (count (is_return c) h)))
     (cond (is_return c e) (suc (count (is_return c) h)) (count (is_return c) h))
 step_busy h c busy (Called d call) is are =
-    rw (flip d c) (step_called c d (count (is_call c) h) (count (is_return c) h) (busy c) (c == d) refl (λ e. ap busy e ∙ is) (are c))
+    rw (eq_swapped d c) (step_called c d (count (is_call c) h) (count (is_return c) h) (busy c) (c == d) refl (λ e. ap busy e ∙ is) (are c))
 step_busy h c busy (Replied d reply) is are =
-    rw (flip d c) (step_replied c d (count (is_call c) h) (count (is_return c) h) (busy c) (c == d) refl (λ e. ap busy e ∙ is) (are c))
+    rw (eq_swapped d c) (step_replied c d (count (is_call c) h) (count (is_return c) h) (busy c) (c == d) refl (λ e. ap busy e ∙ is) (are c))
 
 pub busy_next : (h : List Event) (n : ℕ) (e : Event) (busy next : ℕ → Bool) → AreBusy (take n h) busy → slice_get h n ≡ Some e → busy (client_of e) ≡ not (begins e)
     → ((c : ℕ) → next c ≡ cond (c == client_of e) (begins e) (busy c)) → AreBusy (take (n + 1) h) next

@@ -17,10 +17,10 @@ use Rattle.lc_linear.specs.Form.{Place, form_of, FormFits, HasForm}
 abbrev pub Decision : Type 0 → Type 0
 Decision P = P ⊎ (P → ⊥)
 
-pub both : {P Q : Type 0} → Decision P → Decision Q → Decision (P × Q)
-both (inl p) (inl q) = inl (p, q)
-both (inl p) (inr no') = inr (λ h. no' h.1)
-both (inr no') d = inr (λ h. no' h.0)
+pub decision_of_both : {P Q : Type 0} → Decision P → Decision Q → Decision (P × Q)
+decision_of_both (inl p) (inl q) = inl (p, q)
+decision_of_both (inl p) (inr no') = inr (λ h. no' h.1)
+decision_of_both (inr no') d = inr (λ h. no' h.0)
 
 pub decided_as : {P Q : Type 0} → (P → Q) → (Q → P) → Decision P → Decision Q
 decided_as to from (inl p) = inl (to p)
@@ -128,7 +128,7 @@ zero_fits = omega (arith, ints)
 
 fits : (n : ℤ) → Decision (FitsSigned w128 n)
 fits n = decided_as (λ h. let low = h.0 in let high = h.1 in omega (arith, ints)) (λ h. (omega (arith, ints), omega (arith, ints)))
-    (both (at_most (pos 0 -ℤ pos (2 ^ 127)) n) (less n (pos (2 ^ 127))))
+    (decision_of_both (at_most (pos 0 -ℤ pos (2 ^ 127)) n) (less n (pos (2 ^ 127))))
 
 at_places : (P : Place → Type 0) → P None × ((a : Term) → P (Some a)) → (p : Place) → P p
 at_places P h None = h.0
@@ -137,10 +137,10 @@ at_places P h (Some a) = h.1 a
 form_fits : (t : Term) → Decision (FormFits t)
 form_fits t =
     decided_as (at_places (λ p. FitsSigned w128 (form_of t p))) (λ h. (h None, λ a. h (Some a)))
-    (both (fits (form_of t None)) (of_all (λ a. FitsSigned w128 (form_of t (Some a))) (λ a. fits (form_of t (Some a))) (atoms t) (λ a h. subst (FitsSigned w128) (sym (absent t a h)) zero_fits)))
+    (decision_of_both (fits (form_of t None)) (of_all (λ a. FitsSigned w128 (form_of t (Some a))) (λ a. fits (form_of t (Some a))) (atoms t) (λ a h. subst (FitsSigned w128) (sym (absent t a h)) zero_fits)))
 
 three : {P Q R : Type 0} → Decision P → Decision Q → Decision R → Decision (P × Q × R)
-three p q r = decided_as (λ h. (h.0, h.1.0, h.1.1)) (λ h. (h.0, (h.1, h.2))) (both p (both q r))
+three p q r = decided_as (λ h. (h.0, h.1.0, h.1.1)) (λ h. (h.0, (h.1, h.2))) (decision_of_both p (decision_of_both q r))
 
 pub has_form : (t : Term) → Decision (HasForm t)
 has_form (Number n) = form_fits (Number n)
@@ -148,17 +148,17 @@ has_form (Variable k) = form_fits (Variable k)
 has_form (Bound k) = form_fits (Bound k)
 has_form (Add t u) = three (has_form t) (has_form u) (form_fits (Add t u))
 has_form (Subtract t u) = three (has_form t) (has_form u) (form_fits (Subtract t u))
-has_form (Multiply n t) = both (has_form t) (form_fits (Multiply n t))
+has_form (Multiply n t) = decision_of_both (has_form t) (form_fits (Multiply n t))
 has_form (Read c i) = form_fits (Read c i)
 
 vanishes : (t : Term) → Decision ((a : Term) → form_of t (Some a) ≡ pos 0)
 vanishes t = of_all (λ a. form_of t (Some a) ≡ pos 0) (λ a. equal (form_of t (Some a)) (pos 0)) (atoms t) (λ a h. absent t a h)
 
 -- a sum that is allowed, and has a form, closes or does not
-pub closes : (es : List Entry) → IsTrue (are_allowed es) → HasForm (combined es) → Decision (Closes es)
-closes es allowed fits' =
+pub decision_closes : (es : List Entry) → IsTrue (are_allowed es) → HasForm (combined es) → Decision (Closes es)
+decision_closes es allowed fits' =
     decided_as (λ h. record { allowed = allowed; fits = fits'; vanishes = h.0; positive = h.1 }) (λ c. (c.vanishes, c.positive))
-    (both (vanishes (combined es)) (less (pos 0) (form_of (combined es) None)))
+    (decision_of_both (vanishes (combined es)) (less (pos 0) (form_of (combined es) None)))
 
 -- a multiple of k, which is at least 1
 multiple : (k : ℤ) → pos 1 ≤ℤ k → (a : ℤ) → Decision ((c : ℤ) × (a ≡ k *ℤ c))
@@ -174,16 +174,16 @@ divides_by k t (inl positive) =
     (of_all (λ a. (c : ℤ) × (form_of t (Some a) ≡ k *ℤ c)) (λ a. multiple k positive (form_of t (Some a))) (atoms t) (λ a h. (pos 0, absent t a h ∙ no_times k)))
 divides_by k t (inr no') = inr (λ d. no' d.positive)
 
-pub divides : (k : ℤ) (t : Term) → Decision (Divides k (form_of t))
-divides k t = divides_by k t (at_most (pos 1) k)
+pub decision_divides : (k : ℤ) (t : Term) → Decision (Divides k (form_of t))
+decision_divides k t = divides_by k t (at_most (pos 1) k)
 
 rounded_up : (d k n : ℤ) → Decision (IsRoundedUp d k n)
-rounded_up d k n = decided_as (λ h. record { reaches = h.0; least = h.1 }) (λ r. (r.reaches, r.least)) (both (at_most d (k *ℤ n)) (less (k *ℤ n) (d +ℤ k)))
+rounded_up d k n = decided_as (λ h. record { reaches = h.0; least = h.1 }) (λ r. (r.reaches, r.least)) (decision_of_both (at_most d (k *ℤ n)) (less (k *ℤ n) (d +ℤ k)))
 
 pub is_divided : (t : Term) (k : ℤ) (q : Term) → Decision (IsDivided (form_of t) k (form_of q))
 is_divided t k q =
     decided_as (λ h. record { coefficients = h.0; constant = h.1 }) (λ d. (d.coefficients, d.constant))
-    (both
+    (decision_of_both
     (of_all (λ a. form_of t (Some a) ≡ k *ℤ form_of q (Some a)) (λ a. equal (form_of t (Some a)) (k *ℤ form_of q (Some a))) (atoms t ++ atoms q)
     (λ a h. let n = among-append a (atoms t) (atoms q) h in absent t a n.0 ∙ no_times k ∙ ap (λ c. k *ℤ c) (sym (absent q a n.1))))
     (rounded_up (form_of t None) k (form_of q None)))

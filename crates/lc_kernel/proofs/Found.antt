@@ -73,8 +73,8 @@ pub record Summed (v : ℕ) (H : List Formula) (n : ℕ) (ms : List (ℤ × ℤ)
   pub counted : n ≡ 0
   pub gives : SumGives v found (opens w bs)
 
-pub summed : (v : ℕ) (H : List Formula) (n : ℕ) (ms : List (ℤ × ℤ)) (w : ℕ) (bs : List (List Formula)) → Gives v H n (S.Sum ms) (opens w bs) → Summed v H n ms w bs
-summed v H n ms w bs is =
+pub sum_gives_summed : (v : ℕ) (H : List Formula) (n : ℕ) (ms : List (ℤ × ℤ)) (w : ℕ) (bs : List (List Formula)) → Gives v H n (S.Sum ms) (opens w bs) → Summed v H n ms w bs
+sum_gives_summed v H n ms w bs is =
     let e = needing_opens w bs (entries H ms) NoHypothesis (λ es. Testing (all_comparisons es) WrongForm (Branching n 0 (SumGives v es))) is in
     let t = testing_opens w bs (all_comparisons e.0) WrongForm (Branching n 0 (SumGives v e.0)) e.2 in
     let b = branching_opens w bs n 0 (SumGives v e.0) t.1 in
@@ -90,8 +90,8 @@ pub record Opposed (v : ℕ) (H : List Formula) (n : ℕ) (h g : ℤ) (w : ℕ) 
   pub counted : n ≡ 0
   pub gives : Opens v [] (opens w bs)
 
-pub opposed : (v : ℕ) (H : List Formula) (n : ℕ) (h g : ℤ) (w : ℕ) (bs : List (List Formula)) → Gives v H n (S.Opposite h g) (opens w bs) → Opposed v H n h g w bs
-opposed v H n h g w bs is =
+pub opposite_gives_opposed : (v : ℕ) (H : List Formula) (n : ℕ) (h g : ℤ) (w : ℕ) (bs : List (List Formula)) → Gives v H n (S.Opposite h g) (opens w bs) → Opposed v H n h g w bs
+opposite_gives_opposed v H n h g w bs is =
     let f = needing_opens w bs (hypothesis H h) NoHypothesis (λ f. Needing (hypothesis H g) NoHypothesis (λ f'. Testing (formula_eq f' (Not f)) NotOpposite (Branching n 0 (Opens v [])))) is in
     let f' = needing_opens w bs (hypothesis H g) NoHypothesis (λ f'. Testing (formula_eq f' (Not f.0)) NotOpposite (Branching n 0 (Opens v []))) f.2 in
     let t = testing_opens w bs (formula_eq f'.0 (Not f.0)) NotOpposite (Branching n 0 (Opens v [])) f'.2 in

@@ -5,7 +5,7 @@ use Rattle.lc_array.specs.Axioms.{written, same_index, affine_cell}
 use Rattle.lc_term.specs.Places.{is_closed}
 use Rattle.lc_term.specs.Substitution.{instantiated}
 use Rattle.lc_term.specs.Syntax.{Variable, Formula, Not}
-use Rattle.lc_kernel.proofs.Found.{opens_same, taking_opens, in_use_opens, branching_in_use, summed, opposed, open_opens}
+use Rattle.lc_kernel.proofs.Found.{opens_same, taking_opens, in_use_opens, branching_in_use, sum_gives_summed, opposite_gives_opposed, open_opens}
 use Rattle.lc_kernel.specs.Below.{term_below, column_below, formula_below}
 use Rattle.lc_kernel.specs.Proofs as S
 use Rattle.lc_kernel.specs.Proofs.{Step}
@@ -48,8 +48,8 @@ Gives-grows v w H n (S.Divide h k f) bs is =
     let t = taking_opens w bs H h excess n (λ t. 1) (λ t. InUse (formula_below v f) (QuotientGives v f t k)) is in
     let g = in_use_opens w bs (formula_below v f) (QuotientGives v f t.part k) t.gives in
     same_count v w bs ((f ∷ []) ∷ []) g.1.0
-Gives-grows v w H n (S.Sum ms) bs is = same_count v w bs [] (summed v H n ms w bs is).gives.0
-Gives-grows v w H n (S.Opposite h g) bs is = same_count v w bs [] (opposed v H n h g w bs is).gives
+Gives-grows v w H n (S.Sum ms) bs is = same_count v w bs [] (sum_gives_summed v H n ms w bs is).gives.0
+Gives-grows v w H n (S.Opposite h g) bs is = same_count v w bs [] (opposite_gives_opposed v H n h g w bs is).gives
 Gives-grows v w H n S.Open bs is = absurd (open_opens v H n w bs is)
 
 -- ---- branches
@@ -93,6 +93,6 @@ Gives-count v w H n (S.Divide h k f) bs is =
     let t = taking_opens w bs H h excess n (λ t. 1) (λ t. InUse (formula_below v f) (QuotientGives v f t k)) is in
     let g = in_use_opens w bs (formula_below v f) (QuotientGives v f t.part k) t.gives in
     opens_count v w n 1 bs ((f ∷ []) ∷ []) g.1.0 t.counted refl
-Gives-count v w H n (S.Sum ms) bs is = let t = summed v H n ms w bs is in opens_count v w n 0 bs [] t.gives.0 t.counted refl
-Gives-count v w H n (S.Opposite h g) bs is = let t = opposed v H n h g w bs is in opens_count v w n 0 bs [] t.gives t.counted refl
+Gives-count v w H n (S.Sum ms) bs is = let t = sum_gives_summed v H n ms w bs is in opens_count v w n 0 bs [] t.gives.0 t.counted refl
+Gives-count v w H n (S.Opposite h g) bs is = let t = opposite_gives_opposed v H n h g w bs is in opens_count v w n 0 bs [] t.gives t.counted refl
 Gives-count v w H n S.Open bs is = absurd (open_opens v H n w bs is)

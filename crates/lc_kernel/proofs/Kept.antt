@@ -9,7 +9,7 @@ use Rattle.lc_term.specs.Places.{is_closed}
 use Rattle.lc_term.specs.Substitution.{instantiated}
 use Rattle.lc_term.specs.Syntax.{Term, Variable, Column, Formula, Le, Eq, Not, And, Or, Implies, Forall, Exists, Formulas, none, more, formulas, parts}
 use Rattle.lc_kernel.proofs.InUse.{inner_below, parts_below, instantiated_below, all_below-more, all_below-append}
-use Rattle.lc_kernel.proofs.Found.{opens_same, taking_opens, in_use_opens, branching_in_use, summed, opposed, open_opens, hypothesis_has}
+use Rattle.lc_kernel.proofs.Found.{opens_same, taking_opens, in_use_opens, branching_in_use, sum_gives_summed, opposite_gives_opposed, open_opens, hypothesis_has}
 use Rattle.lc_kernel.specs.Below.{term_below, column_below, formula_below, all_below}
 use Rattle.lc_kernel.specs.Proofs as S
 use Rattle.lc_kernel.specs.Proofs.{Step}
@@ -199,8 +199,8 @@ Gives-kept v w H n (S.Divide h k f) bs is all =
     let t = taking_opens w bs H h excess n (λ t. 1) (λ t. InUse (formula_below v f) (QuotientGives v f t k)) is in
     let g = in_use_opens w bs (formula_below v f) (QuotientGives v f t.part k) t.gives in
     kept_formula v w bs f g.1.0 g.0
-Gives-kept v w H n (S.Sum ms) bs is all = kept_none v w bs (summed v H n ms w bs is).gives.0
-Gives-kept v w H n (S.Opposite h g) bs is all = kept_none v w bs (opposed v H n h g w bs is).gives
+Gives-kept v w H n (S.Sum ms) bs is all = kept_none v w bs (sum_gives_summed v H n ms w bs is).gives.0
+Gives-kept v w H n (S.Opposite h g) bs is all = kept_none v w bs (opposite_gives_opposed v H n h g w bs is).gives
 Gives-kept v w H n S.Open bs is all = absurd (open_opens v H n w bs is)
 
 branches_below : (w : ℕ) (H : List Formula) (bs : List (List Formula)) → IsTrue (all_below w H) → AllByRecursion (λ b. IsTrue (all_below w b)) bs → AllByRecursion (λ b. IsTrue (all_below w (H ++ b))) bs

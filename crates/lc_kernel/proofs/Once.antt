@@ -11,7 +11,7 @@ use Rattle.lc_term.specs.Equal.{formula_eq}
 use Rattle.lc_term.specs.Places.{is_closed}
 use Rattle.lc_term.specs.Substitution.{instantiated}
 use Rattle.lc_term.specs.Syntax.{Term, Variable, Formula, Not}
-use Rattle.lc_kernel.proofs.Decided.{Decision, both, has_form, closes, divides, is_divided}
+use Rattle.lc_kernel.proofs.Decided.{Decision, decision_of_both, has_form, decision_closes, decision_divides, is_divided}
 use Rattle.lc_kernel.specs.Below.{term_below, column_below, formula_below}
 use Rattle.lc_kernel.specs.Proofs as S
 use Rattle.lc_kernel.specs.Proofs.{Step}
@@ -111,7 +111,7 @@ sum_decided v es allowed fits (inl c) = (opens v [], (refl, c))
 sum_decided v es allowed fits (inr no') = (flawed (Bad DoesNotClose), (refl, λ h. fits, no'))
 
 sum_of_form : (v : ℕ) (es : List Entry) → IsTrue (are_allowed es) → Decision (HasForm (combined es)) → (o : Outcome) × SumGives v es o
-sum_of_form v es allowed (inl fits) = sum_decided v es allowed fits (closes es allowed fits)
+sum_of_form v es allowed (inl fits) = sum_decided v es allowed fits (decision_closes es allowed fits)
 sum_of_form v es allowed (inr no') = (flawed Large, (allowed, no'))
 
 sum_by : (v : ℕ) (es : List Entry) (b : Bool) → are_allowed es ≡ b → (o : Outcome) × SumGives v es o
@@ -138,7 +138,7 @@ quotient_decided v f t k (inl fits) (inl d) (inl q) = (opens v ((f ∷ []) ∷ [
 
 quotient_one : (v : ℕ) (f : Formula) (t : Term) (k : ℤ) → One (QuotientGives v f t k)
 quotient_one v f t k =
-    let q = quotient_decided v f t k (both (has_form t) (can_compare (excess f))) (divides k t) (is_quotient t k (excess f)) in
+    let q = quotient_decided v f t k (decision_of_both (has_form t) (can_compare (excess f))) (decision_divides k t) (is_quotient t k (excess f)) in
     record { outcome = q.0; meets = q.1; only = quotient_once v f t k }
 
 -- ---- steps

@@ -19,7 +19,7 @@ use Rattle.lc_term.specs.Syntax.{Term, Variable, Formula, Not}
 use Rattle.lc_kernel.proofs.InUse.{inner_below, all_below-append}
 use Rattle.lc_kernel.proofs.Kept.{Gives-kept, Gives-branches, hypothesis_below, for_some_below}
 use Rattle.lc_kernel.proofs.Holding.{AllRefuted, each_append, hypothesis_holds, each_refuted, conjuncts_hold, one_holds, pushed_holds, for_all_holds, for_some_holds, one_is_less, entries_hold, closes_refuted, quotient_holds}
-use Rattle.lc_kernel.proofs.Found.{opens_same, taking_opens, in_use_opens, branching_in_use, summed, opposed, open_opens}
+use Rattle.lc_kernel.proofs.Found.{opens_same, taking_opens, in_use_opens, branching_in_use, sum_gives_summed, opposite_gives_opposed, open_opens}
 use Rattle.lc_kernel.specs.Below.{below, term_below, column_below, formula_below, all_below}
 use Rattle.lc_kernel.specs.Derivation.{Derives, derives, EachDerives, all_closed, one_closed}
 use Rattle.lc_kernel.specs.Proofs as S
@@ -132,9 +132,9 @@ module _ (s : State) (e : Env) where
       let g = in_use_opens w bs (formula_below v f) (QuotientGives v f t.part k) t.gives in
       formula_refuted v w bs f g.1.0 no' (quotient_holds s e t.formula t.part k f t.has g.1.3 (hypothesis_holds s e H h t.formula t.stands all))
   Gives-refuted v w H n (S.Sum ms) bs is in_use' all no' =
-      let t = summed v H n ms w bs is in closes_refuted s e t.found t.gives.1 (entries_hold s e H ms t.found all t.stand)
+      let t = sum_gives_summed v H n ms w bs is in closes_refuted s e t.found t.gives.1 (entries_hold s e H ms t.found all t.stand)
   Gives-refuted v w H n (S.Opposite h g) bs is in_use' all no' =
-      let t = opposed v H n h g w bs is in
+      let t = opposite_gives_opposed v H n h g w bs is in
       opposite_refuted t.formula t.negation t.opposite (hypothesis_holds s e H h t.formula t.stands all) (hypothesis_holds s e H g t.negation t.stands' all)
   Gives-refuted v w H n S.Open bs is in_use' all no' = open_opens v H n w bs is
 
@@ -154,8 +154,8 @@ mutual
   sounds (one_closed {H = H} {b = b} d ds) in_use' s e all = (λ h. sound d in_use'.0 s e (each_append s e H b all h), sounds ds in_use'.1 s e all)
 
 -- a goal that has a derivation follows from the hypotheses
-pub valid : (v : ℕ) (H : List Formula) (goal : Formula) (p : Proof) → Derives v (H ++ Not goal ∷ []) p → IsTrue (all_below v H) → IsTrue (formula_below v goal) → Valid H goal
-valid v H goal p d in_use' in_use_goal = record {
+pub derived_is_valid : (v : ℕ) (H : List Formula) (goal : Formula) (p : Proof) → Derives v (H ++ Not goal ∷ []) p → IsTrue (all_below v H) → IsTrue (formula_below v goal) → Valid H goal
+derived_is_valid v H goal p d in_use' in_use_goal = record {
   holds = λ s e all.
       Holds-stable s e outside goal
       (λ n. sound d (all_below-append v H (Not goal ∷ []) in_use' (and_from (formula_below v goal) true in_use_goal refl)) s e (each_append s e H (Not goal ∷ []) all (n, tt)));

@@ -58,22 +58,22 @@ none_made D proofs OutOfMemory by = by
 
 -- ---- the answer
 
-pub undeveloped : (lib : Lib) (fault : FindFault) → IsReadDevelopment lib (Err fault) → IsCertificateAnswer lib (Err fault)
-undeveloped lib (NotFound k) (is, refused) = (is, inl refused)
-undeveloped lib (Budget k) never = absurd never
-undeveloped lib (Large k) never = absurd never
-undeveloped lib OutOfMemory any = tt
+pub development_fault_answers : (lib : Lib) (fault : FindFault) → IsReadDevelopment lib (Err fault) → IsCertificateAnswer lib (Err fault)
+development_fault_answers lib (NotFound k) (is, refused) = (is, inl refused)
+development_fault_answers lib (Budget k) never = absurd never
+development_fault_answers lib (Large k) never = absurd never
+development_fault_answers lib OutOfMemory any = tt
 
-pub unhinted : (lib : Lib) (D : Development) (fault : FindFault) → Says file_reading (development_bytes lib) D → AreReadHints lib D (Err fault)
+pub hints_fault_answers : (lib : Lib) (D : Development) (fault : FindFault) → Says file_reading (development_bytes lib) D → AreReadHints lib D (Err fault)
     → IsCertificateAnswer lib (Err fault)
-unhinted lib D (NotFound k) says (is, (refusal, refused)) = (is, inr (D, refusal, says, refused))
-unhinted lib D (Budget k) says never = absurd never
-unhinted lib D (Large k) says never = absurd never
-unhinted lib D OutOfMemory says any = tt
+hints_fault_answers lib D (NotFound k) says (is, (refusal, refused)) = (is, inr (D, refusal, says, refused))
+hints_fault_answers lib D (Budget k) says never = absurd never
+hints_fault_answers lib D (Large k) says never = absurd never
+hints_fault_answers lib D OutOfMemory says any = tt
 
-pub answered : (lib : Lib) (D : Development) (value : Hints) (result : Result (Vec ℕ Global) FindFault) → Says file_reading (development_bytes lib) D
+pub result_answers_certificate : (lib : Lib) (D : Development) (value : Hints) (result : Result (Vec ℕ Global) FindFault) → Says file_reading (development_bytes lib) D
     → AreReadHints lib D (Ok value) → IsByProofs D (proofs_in value) result → IsCertificateAnswer lib result
-answered lib D value (Ok text) says (hs, hinted, has) made = (
+result_answers_certificate lib D value (Ok text) says (hs, hinted, has) made = (
   D,
   hs,
   record {
@@ -82,11 +82,11 @@ answered lib D value (Ok text) says (hs, hinted, has) made = (
     accepted = (says, made.1);
   },
 )
-answered lib D value (Err (NotFound k)) says hinted never = absurd never
-answered lib D value (Err (Budget k)) says (hs, hinted, has) made =
+result_answers_certificate lib D value (Err (NotFound k)) says hinted never = absurd never
+result_answers_certificate lib D value (Err (Budget k)) says (hs, hinted, has) made =
     (D, hs, record { development = says; hints = hinted }, subst (λ es. IsUncertified D es k) has.proofs made)
-answered lib D value (Err (Large k)) says hinted never = absurd never
-answered lib D value (Err OutOfMemory) says hinted any = tt
+result_answers_certificate lib D value (Err (Large k)) says hinted never = absurd never
+result_answers_certificate lib D value (Err OutOfMemory) says hinted any = tt
 
 pub accepted_answer : (lib : Lib) (result : Result (Vec ℕ Global) FindFault) → IsCertificateAnswer lib result
     → IfOk result (λ text. (D : Development) × IsAccepted (development_bytes lib) text.items D)

@@ -11,7 +11,7 @@ use Rattle.indexmap.specs.IndexMap.{insert_entry}
 use Rattle.indexmap.specs.Layout.{set_value_at}
 use Rattle.lc_linear.proofs.Ids.{Decides-is_same}
 use Rattle.lc_table.specs.declared.node.TermId.{TermId}
-use Rattle.lc_linear.proofs.Numbers.{kept}
+use Rattle.lc_linear.proofs.Numbers.{wide_number_kept}
 use Rattle.lc_linear.proofs.Products.{mul-neg}
 use Rattle.lc_linear.specs.Numbered.{Place, Form, is_same, atom_form, coefficient_in, listed, AllFit}
 
@@ -117,7 +117,7 @@ pub found_sum : (es : List (TermId × ℤ)) (k : TermId) (o : Option ℤ) (b cou
     to_z w128 (of_z w128 b) +ℤ to_z w128 (of_z w128 count) ≡ coefficient_in es k +ℤ count
 found_sum es k o b count found is f fits =
     let e = found_is es k o b found is in
-    ap₂ ◌+ℤ◌ (kept b (subst (FitsSigned w128) e (fits k)) ∙ sym e) (kept count f)
+    ap₂ ◌+ℤ◌ (wide_number_kept b (subst (FitsSigned w128) e (fits k)) ∙ sym e) (wide_number_kept count f)
 
 -- an atom that was not there
 pub added_new : (m count n : ℤ) (es new : List (TermId × ℤ)) (k : TermId) (o : Option ℤ) → new ≡ insert_entry is_same es k n → n ≡ count →
@@ -127,9 +127,9 @@ added_new m count n es new k o put is found none p =
     listed-insert_entry m es new k n put p ∙ replaced_adds (listed m es) k n count (omega (arith, ints)) p
 
 -- an atom that was there: its coefficient is changed in place
-pub changed : (es new : List (TermId × ℤ)) (k : TermId) (i : ℕ) (v w : ℤ) → new ≡ insert_entry is_same es k v → i ≡ position_or_len (is_same k) (keys_of es) →
+pub set_inserted_value : (es new : List (TermId × ℤ)) (k : TermId) (i : ℕ) (v w : ℤ) → new ≡ insert_entry is_same es k v → i ≡ position_or_len (is_same k) (keys_of es) →
     set_value_at new i w ≡ insert_entry is_same es k w
-changed es new k i v w put at = ap₂ (λ l j. set_value_at l j w) put at ∙ set_value_at-insert_entry is_same es k v w
+set_inserted_value es new k i v w put at = ap₂ (λ l j. set_value_at l j w) put at ∙ set_value_at-insert_entry is_same es k v w
 
 pub added_old : (m count n : ℤ) (es new : List (TermId × ℤ)) (k : TermId) → new ≡ insert_entry is_same es k n → n ≡ coefficient_in es k +ℤ count →
     (p : Place) → listed m new p ≡ listed m es p +ℤ count *ℤ atom_form k p

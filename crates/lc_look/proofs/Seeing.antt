@@ -99,10 +99,10 @@ mutual
   looks_none ns s e b none = tt
   looks_none ns s e b (more f fs) = says_both (opposite (look_in ns s e b f)) (look_none ns s e b fs) (Holds s e b f → ⊥) (NoneHolds s e b fs) (says_opposite (look_in ns s e b f) (Holds s e b f) (looks_in ns s e b f)) (looks_none ns s e b fs)
 
-pub looks : LooksAreRight
-looks ns s e f = looks_in ns s e outside f
+pub looking_is_right : LooksAreRight
+looking_is_right ns s e f = looks_in ns s e outside f
 
 -- what is answered of a formula is so
-pub answered : {E : Type 0} (r : Result Seen E) (seen : Seen) (P : Type 0) → IfOk r (λ l. l ≡ seen) → Says seen P → IfOk r (λ l. Says l P)
-answered (Ok l) seen P is h = subst (λ m. Says m P) (sym is) h
-answered (Err e) seen P is h = tt
+pub seen_answer_says : {E : Type 0} (r : Result Seen E) (seen : Seen) (P : Type 0) → IfOk r (λ l. l ≡ seen) → Says seen P → IfOk r (λ l. Says l P)
+seen_answer_says (Ok l) seen P is h = subst (λ m. Says m P) (sym is) h
+seen_answer_says (Err e) seen P is h = tt

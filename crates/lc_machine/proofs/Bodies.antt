@@ -54,8 +54,8 @@ placed_in : (object : Object) (point : Point) (found : Option Operation) → sli
 placed_in object point None e h = absurd cc
 placed_in object point (Some o) e h = record { operation = o; is = e; limits = left_true _ _ h; instruction = right_true _ _ h }
 
-pub placed : (object : Object) → is_object object ≡ true → (p : ℕ) (point : Point) → slice_get object.points p ≡ Some point → IsPlaced object point
-placed object well p point at = placed_in object point (slice_get object.operations point.operation) refl (at_all (is_point object) object.points p point (points_pass object well) at)
+pub point_is_placed : (object : Object) → is_object object ≡ true → (p : ℕ) (point : Point) → slice_get object.points p ≡ Some point → IsPlaced object point
+point_is_placed object well p point at = placed_in object point (slice_get object.operations point.operation) refl (at_all (is_point object) object.points p point (points_pass object well) at)
 
 -- ---- where an instruction goes, and what it answers
 

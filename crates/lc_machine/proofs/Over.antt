@@ -20,7 +20,7 @@ use Rattle.lc_machine.proofs.Known.{known_term, known_formula}
 use Rattle.lc_machine.proofs.ArrayColumns.{arrays_pass}
 use Rattle.lc_term.specs.Lists.{Every}
 use Rattle.lc_term.proofs.Tests.{left_true, right_true, at_all}
-use Rattle.lc_machine.proofs.Bodies.{placed}
+use Rattle.lc_machine.proofs.Bodies.{point_is_placed}
 
 -- a column of the object
 abbrev pub IsOwn : Object → ℕ → Type 0
@@ -135,7 +135,7 @@ module _ (object : Object) (well : is_object object ≡ true) (w b : World) (cli
 
   gone : (p : ℕ) (vs : List ℤ) (i : Instr) (k : EdgeKind) (s : State) (out : Outcome) → IsRunning object w c p vs i → Does object w.columns vs i k s out → (t : State) × Does object b.columns vs i k t out × Agree object s t
   gone p vs i k s out r done =
-      let pl = placed object well p r.code.0 r.code.1 in
+      let pl = point_is_placed object well p r.code.0 r.code.1 in
       does_over object well w.columns b.columns agree (r.code.0).operation pl.operation vs i k s out (subst (λ j. is_instruction object (r.code.0).operation pl.operation j ≡ true) r.code.2 pl.instruction) done
 
   same_after : (s t : State) (x : Client) (w' : World) → w' ≡ after w s c x → w'.clients ≡ (after b t c x).clients

@@ -116,8 +116,8 @@ placed_at object p n None e h = cc
 placed_at object p n (Some point) e h = slice_get_within object.points p point e
 
 -- if there are variables there is a point
-pub placed : (object : Object) (p n : ℕ) → variables_at object p ≡ Some n → p < length object.points
-placed object p n h = placed_at object p n (slice_get object.points p) refl h
+pub point_with_variables : (object : Object) (p n : ℕ) → variables_at object p ≡ Some n → p < length object.points
+point_with_variables object p n h = placed_at object p n (slice_get object.points p) refl h
 
 entry_at : (object : Object) (n : ℕ) (os : List Operation) (k m : ℕ) (o : Operation) → m ≡ n + k → are_operations object n os ≡ true → slice_get os k ≡ Some o → is_label object m o.entry ≡ true
 entry_at object n [] k m o e h f = cc
@@ -140,9 +140,9 @@ first_count clients client o ns e =
     omega arith
 
 -- a call begins at a place
-pub begun : (object : Object) → is_object object ≡ true → (op clients client : ℕ) (o : Operation) (ns variables : List ℤ) → slice_get object.operations op ≡ Some o →
+pub entry_is_placed : (object : Object) → is_object object ≡ true → (op clients client : ℕ) (o : Operation) (ns variables : List ℤ) → slice_get object.operations op ≡ Some o →
     length ns ≡ length o.arguments → variables ≡ first_variables clients client o ns → is_placed object (In o.entry variables) ≡ true
-begun object well op clients client o ns variables e count first =
+entry_is_placed object well op clients client o ns variables e count first =
     ap (λ m. is_count m (length variables)) (entry_variables object well op o e) ∙
     eq-eqb (variable_count o) (length variables) (sym (ap length first ∙ first_count clients client o ns count))
 

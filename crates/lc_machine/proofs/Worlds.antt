@@ -67,26 +67,26 @@ running : (object : Object) (w : World) (c : ℕ) (k : W.Client) (p : ℕ) (vari
 running object w c k p variables i is at = record { client = is ∙ ap Some at.client_is; code = at.code }
 
 -- a client's step is a step of the world
-pub advanced : (object : Object) (w : World) (c : ℕ) (k k' : W.Client) (s : State) (r : Result Moved StepFault) → IsClient w c k → IsStepped object w.columns k s k' r →
+pub stepped_is_advanced : (object : Object) (w : World) (c : ℕ) (k k' : W.Client) (s : State) (r : Result Moved StepFault) → IsClient w c k → IsStepped object w.columns k s k' r →
     IsAdvanced object w c (after w s c k') r
-advanced object w c k k' s (Ok (Went point edge)) is (p, variables, i, new, at, fits, does, put) =
+stepped_is_advanced object w c k k' s (Ok (Went point edge)) is (p, variables, i, new, at, fits, does, put) =
     let runs = running object w c k p variables i is at in (
       (p, variables, i, runs, fits),
       (p, (variables, i, runs, s, point.0, new, does, ap (after w s c) put)),
       (new, put_there w.clients c k' k is ∙ ap Some put),
     )
-advanced object w c k k' s (Ok (Returned reply)) is (p, variables, i, edge, at, fits, does, put, few) =
+stepped_is_advanced object w c k k' s (Ok (Returned reply)) is (p, variables, i, edge, at, fits, does, put, few) =
     let runs = running object w c k p variables i is at in
     ((p, variables, i, runs, fits), (p, variables, i, runs, edge, s, does, ap (after w s c) put), few)
-advanced object w c k k' s (Err Idle) is (idle, e, f) = (is ∙ ap Some idle, same_world w s c k k' is e f)
-advanced object w c k k' s (Err Overflow) is (p, variables, i, at, no_fit, e, f) =
+stepped_is_advanced object w c k k' s (Err Idle) is (idle, e, f) = (is ∙ ap Some idle, same_world w s c k k' is e f)
+stepped_is_advanced object w c k k' s (Err Overflow) is (p, variables, i, at, no_fit, e, f) =
     ((p, variables, i, running object w c k p variables i is at, no_fit), same_world w s c k k' is e f)
-advanced object w c k k' s (Err OutOfMemory) is (p, variables, i, at, fits, e, f) =
+stepped_is_advanced object w c k k' s (Err OutOfMemory) is (p, variables, i, at, fits, e, f) =
     ((p, variables, i, running object w c k p variables i is at, fits), same_world w s c k k' is e f)
-advanced object w c k k' s (Err NoClient) is h = absurd h
-advanced object w c k k' s (Err Busy) is h = h
-advanced object w c k k' s (Err NoOp) is h = h
-advanced object w c k k' s (Err Arity) is h = h
+stepped_is_advanced object w c k k' s (Err NoClient) is h = absurd h
+stepped_is_advanced object w c k k' s (Err Busy) is h = h
+stepped_is_advanced object w c k k' s (Err NoOp) is h = h
+stepped_is_advanced object w c k k' s (Err Arity) is h = h
 
 -- ---- clients at first
 

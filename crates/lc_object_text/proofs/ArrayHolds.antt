@@ -6,7 +6,7 @@ use Rattle.lc_sexp.specs.Parts.{fits, misshapen}
 use Rattle.lc_sexp.specs.TreeCode.{tree_count}
 use Rattle.lc_sexp.specs.Trees.{Tree, Trees, atom, list, none, ◌▸◌, item_count}
 use Rattle.lc_text.specs.Terms.{numbers_reading}
-use Rattle.lc_reading.proofs.Holding.{Holds, both_holds, anything, weaker}
+use Rattle.lc_reading.proofs.Holding.{Holds, both_holds, holds_unit, holds_weaker}
 use Rattle.lc_reading.specs.Readings.{fine, wrong, limited, both}
 use Rattle.lc_reading.specs.Words.{is}
 use Rattle.lc_reading.specs.declared.pass.Pass.TheVariants.{Shape}
@@ -28,7 +28,7 @@ column_holds names base i n (atom w) = tt
 column_holds names base i n (list none) = tt
 column_holds names base i n (list (t ▸ ts)) =
     both_holds (λ w. i < width_limit) (λ z. Unit {0}) (λ column. i < width_limit) column_of (own_name_reading names base i n (n + 1) t) (numbers_reading n (n + 1 + item_count t) ts)
-    (limited_below width_limit i n (limited (nat_le column_limit (base + i)) n (kth_name_reading names (base + i) (n + 1) t))) (anything (numbers_reading n (n + 1 + item_count t) ts)) (λ w z h u. h)
+    (limited_below width_limit i n (limited (nat_le column_limit (base + i)) n (kth_name_reading names (base + i) (n + 1) t))) (holds_unit (numbers_reading n (n + 1 + item_count t) ts)) (λ w z h u. h)
 
 -- one to four
 abbrev pub IsWidth : ℕ → Type 0
@@ -45,7 +45,7 @@ columns_hold : (d : Declared) (i n m : ℕ) (ts : Trees) → Holds (HaveColumns 
 columns_hold d i n m none = tt
 columns_hold d i n m (t ▸ ts) =
     let read = column_reading d.columns (first_column (slice_get d.spans i)) in
-    weaker (Each IsColumn 0 (t ▸ ts)) (HaveColumns (t ▸ ts)) (columns_reading d i n m (t ▸ ts))
+    holds_weaker (Each IsColumn 0 (t ▸ ts)) (HaveColumns (t ▸ ts)) (columns_reading d i n m (t ▸ ts))
     (λ columns h. let size = each_counted IsColumn 0 (t ▸ ts) columns h in (size, (omega arith, omega (arith, size, each_few IsColumn 4 (λ i t x below. below) 0 (t ▸ ts) columns (omega arith) h))))
     (placed_holds IsColumn read (column_holds d.columns (first_column (slice_get d.spans i))) 0 m (t ▸ ts))
 
@@ -53,7 +53,7 @@ array_parts_hold : (d : Declared) (i n m : ℕ) (us : Trees) → Holds (HasColum
 array_parts_hold d i n m none = tt
 array_parts_hold d i n m (t ▸ ts) =
     both_holds (λ w. Unit {0}) (HaveColumns ts) (HasColumns (t ▸ ts)) array_of (kth_name_reading d.arrays i m t) (columns_reading d i n (m + item_count t) ts)
-    (anything (kth_name_reading d.arrays i m t)) (columns_hold d i n (m + item_count t) ts) (λ w columns u h. h)
+    (holds_unit (kth_name_reading d.arrays i m t)) (columns_hold d i n (m + item_count t) ts) (λ w columns u h. h)
 
 -- the arrays at the beginning of items
 abbrev pub AreArrays : List Trees → List ArrayText → Type 0

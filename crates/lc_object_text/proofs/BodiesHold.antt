@@ -9,7 +9,7 @@ use Rattle.std.specs.List.{list_any}
 use Rattle.lc_base.specs.Limits.{local_limit, point_limit}
 use Rattle.lc_sexp.specs.TreeCode.{tree_count}
 use Rattle.lc_sexp.specs.Trees.{Tree, Trees, none, ◌▸◌}
-use Rattle.lc_reading.proofs.Holding.{Holds, weaker}
+use Rattle.lc_reading.proofs.Holding.{Holds, holds_weaker}
 use Rattle.lc_reading.specs.Listed.{place_of, names_among}
 use Rattle.lc_reading.specs.Readings.{wrong}
 use Rattle.lc_reading.specs.Words.{is}
@@ -34,7 +34,7 @@ due_holds : (d : Declared) (i n : ℕ) (t : Tree) → Holds (IsDue d i t) (ith_b
 due_holds d i n t = by_body (slice_get d.bodies i) refl where
   by_body : (o : Option Body) → slice_get d.bodies i ≡ o → Holds (IsDue d i t) (due_body_reading d code_alone o i n t)
   by_body None e = tt
-  by_body (Some b) e = weaker (IsBodyAt d b i t) (IsDue d i t) (due_body_reading d code_alone (Some b) i n t) (λ text h. (b, e, h)) (body_holds d b i n t)
+  by_body (Some b) e = holds_weaker (IsBodyAt d b i t) (IsDue d i t) (due_body_reading d code_alone (Some b) i n t) (λ text h. (b, e, h)) (body_holds d b i n t)
 
 abbrev pub AreBodies : Declared → Trees → List (BodyText Point) → Type 0
 AreBodies d ts texts = (bodies_due (length d.operations) ≤ tree_count ts) × Each (IsDue d) 0 ts texts
@@ -47,7 +47,7 @@ bodies_hold d n m ts = by_test (nat_lt (tree_count ts) (bodies_due (length d.ope
   by_test : (b : Bool) → nat_lt (tree_count ts) (bodies_due (length d.operations)) ≡ b → Holds (AreBodies d ts) (cond b (wrong Shape n) (placed_reading (ith_body_reading d code_alone) 0 m ts))
   by_test true e = tt
   by_test false e =
-      weaker (Each (IsDue d) 0 ts) (AreBodies d ts) (placed_reading (ith_body_reading d code_alone) 0 m ts) (λ texts h. (enough (tree_count ts) (bodies_due (length d.operations)) e, h))
+      holds_weaker (Each (IsDue d) 0 ts) (AreBodies d ts) (placed_reading (ith_body_reading d code_alone) 0 m ts) (λ texts h. (enough (tree_count ts) (bodies_due (length d.operations)) e, h))
       (placed_holds (IsDue d) (ith_body_reading d code_alone) (due_holds d) 0 m ts)
 
 -- places in lists that are joined

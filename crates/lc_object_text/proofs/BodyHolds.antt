@@ -9,7 +9,7 @@ use Rattle.lc_sexp.specs.Parts.{fits, form_fit}
 use Rattle.lc_sexp.specs.TreeCode.{tree_count}
 use Rattle.lc_sexp.specs.Trees.{Tree, Trees, atom, list, none, ◌▸◌, item_count}
 use Rattle.lc_text.proofs.ReadHolds.{Kept, OfUsable}
-use Rattle.lc_reading.proofs.Holding.{Holds, both_holds, if_holds, anything, and_true, weaker}
+use Rattle.lc_reading.proofs.Holding.{Holds, both_holds, if_holds, holds_unit, and_true, holds_weaker}
 use Rattle.lc_reading.proofs.Words.{is-true}
 use Rattle.lc_reading.specs.Listed.{place_of, names_among}
 use Rattle.lc_reading.specs.Naming.{use_reading, known}
@@ -91,9 +91,9 @@ code_terms d b =
     }
 
 -- targets
-pub shifted : (m r : ℕ) (o : Option ℕ) → option_map (λ k. m + k) o ≡ Some r → (k : ℕ) × (o ≡ Some k) × (r ≡ m + k)
-shifted m r None e = cc
-shifted m r (Some k) e = (k, refl, let same : m + k ≡ r = cc in sym same)
+pub shifted_target : (m r : ℕ) (o : Option ℕ) → option_map (λ k. m + k) o ≡ Some r → (k : ℕ) × (o ≡ Some k) × (r ≡ m + k)
+shifted_target m r None e = cc
+shifted_target m r (Some k) e = (k, refl, let same : m + k ≡ r = cc in sym same)
 
 -- the name at a place is the name that is placed there
 same_place : (vs : List (List ℕ)) (v w : List ℕ) (k : ℕ) → place_of vs v ≡ Some k → place_of vs w ≡ Some k → v ≡ w
@@ -116,12 +116,12 @@ body_scope : (d : Declared) (b : Body) → Scope (code_names d b) (body_names d 
 body_scope d b = record {
   terms = code_terms d b;
   targets = λ w r e.
-      let c = shifted (2 + length b.call.arguments) r (place_of b.locals w) e in
+      let c = shifted_target (2 + length b.call.arguments) r (place_of b.locals w) e in
       let below : c.0 < length b.locals = place_below b.locals w c.0 c.1 in
       (omega (arith, c.2), omega (arith, c.2, below));
   one = λ v w r e f.
-      let c = shifted (2 + length b.call.arguments) r (place_of b.locals v) e in
-      let g = shifted (2 + length b.call.arguments) r (place_of b.locals w) f in
+      let c = shifted_target (2 + length b.call.arguments) r (place_of b.locals v) e in
+      let g = shifted_target (2 + length b.call.arguments) r (place_of b.locals w) f in
       let same : g.0 ≡ c.0 = omega (arith, c.2, g.2) in
       same_place b.locals v w c.0 c.1 (g.1 ∙ ap Some same);
 }
@@ -145,7 +145,7 @@ point_parts_hold d b k i n m (name ▸ code ▸ ts) =
     (both_holds (λ w. b.first + i < point_limit) F (IsPlaced d b k i) (point_of k) (point_name_reading d (b.first + i) n m name) instruction
     (limited_below point_limit (b.first + i) n (kth_name_reading d.points (b.first + i) m name))
     (instruction_holds (code_names d b) (body_names d b) (first_local b) (variables_in b) (body_scope d b) (m + item_count name) code) (λ w x h g. (h, (refl, g))))
-    (anything sides) (λ q u h g. h)
+    (holds_unit sides) (λ q u h g. h)
 
 -- a point that is read
 abbrev pub IsPoint : Declared → Body → ℕ → ℕ → Tree → Point → Type 0
@@ -161,7 +161,7 @@ ArePoints d b k ts qs = (1 ≤ tree_count ts) × Each (IsPoint d b k) 0 ts qs
 points_hold : (d : Declared) (b : Body) (k n m : ℕ) (ts : Trees) → Holds (ArePoints d b k ts) (points_reading d b code_alone k n m ts)
 points_hold d b k n m none = tt
 points_hold d b k n m (t ▸ ts) =
-    weaker (Each (IsPoint d b k) 0 (t ▸ ts)) (ArePoints d b k (t ▸ ts)) (points_reading d b code_alone k n m (t ▸ ts)) (λ qs h. (omega arith, h))
+    holds_weaker (Each (IsPoint d b k) 0 (t ▸ ts)) (ArePoints d b k (t ▸ ts)) (points_reading d b code_alone k n m (t ▸ ts)) (λ qs h. (omega arith, h))
     (placed_holds (IsPoint d b k) (point_reading d b code_alone k) (point_holds d b k) 0 m (t ▸ ts))
 
 -- a body of the expected operation

@@ -13,7 +13,7 @@ use Rattle.lc_text.proofs.ReadHolds.{Kept, term_holds, formula_holds}
 use Rattle.lc_text.specs.Formulas.{formula_reading}
 use Rattle.lc_text.specs.Names.{Names}
 use Rattle.lc_text.specs.Terms.{pair, term_reading}
-use Rattle.lc_reading.proofs.Holding.{Holds, weaker, and_holds, both_holds, ended_holds, if_holds, and_true}
+use Rattle.lc_reading.proofs.Holding.{Holds, holds_weaker, and_holds, both_holds, ended_holds, if_holds, and_true}
 use Rattle.lc_reading.specs.Listed.{declared_by}
 use Rattle.lc_reading.specs.Naming.{known}
 use Rattle.lc_reading.specs.Readings.{Reading, fine, wrong}
@@ -252,10 +252,10 @@ assignments_hold names code low count scope n (list ts) =
     let R = declared_reading (assignment_reading names code) first_name [] (n + 1) ts in
     let P = λ (cells : List (ℕ × Term)). NewTargets code low count [] (tree_count ts) (map (λ cell. cell.0) cells) in
     let Q = λ (cells : List (ℕ × Term)). (AreTerms count (map (λ cell. cell.1) cells)) × (length (map (λ cell. cell.1) cells) ≡ tree_count ts) in
-    weaker (λ cells. P cells × Q cells) (AreAssigned low count) R (λ cells h. (h.1.1 ∙ sym h.0.counted, (h.0.between, h.0.distinct), h.1.0))
+    holds_weaker (λ cells. P cells × Q cells) (AreAssigned low count) R (λ cells h. (h.1.1 ∙ sym h.0.counted, (h.0.between, h.0.distinct), h.1.0))
     (and_holds P Q R
     (targets_hold names code low count scope (λ (cell : ℕ × Term). cell.0) (assignment_reading names code) first_name
-    (λ before n t. weaker (IsAssignment code count before (first_name t)) (λ cell. IsTarget code before (first_name t) cell.0) (assignment_reading names code before n t) (λ cell h. h.0) (assignment_holds names code low count scope before n t)) [] (n + 1) ts)
+    (λ before n t. holds_weaker (IsAssignment code count before (first_name t)) (λ cell. IsTarget code before (first_name t) cell.0) (assignment_reading names code before n t) (λ cell h. h.0) (assignment_holds names code low count scope before n t)) [] (n + 1) ts)
     (assigned_hold names code low count scope [] (n + 1) ts))
 
 -- parts of instructions that are read together

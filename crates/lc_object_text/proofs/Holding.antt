@@ -7,7 +7,7 @@ use Rattle.lc_base.specs.NameText.{is_name}
 use Rattle.lc_sexp.specs.Parts.{fits, misshapen, form_fit}
 use Rattle.lc_sexp.specs.TreeCode.{tree_count}
 use Rattle.lc_sexp.specs.Trees.{Tree, Trees, atom, list, none, ◌▸◌, item_count}
-use Rattle.lc_reading.proofs.Holding.{Holds, weaker, and_holds, both_holds, ended_holds}
+use Rattle.lc_reading.proofs.Holding.{Holds, holds_weaker, and_holds, both_holds, ended_holds}
 use Rattle.lc_reading.specs.Listed.{declared_by, names_among}
 use Rattle.lc_reading.specs.Naming.{name_reading}
 use Rattle.lc_reading.specs.Readings.{Reading, fine, flawed, wrong, mapped, limited, behind_reading}
@@ -67,7 +67,7 @@ form_holds P word read n (list none) h = tt
 form_holds P word read n (list (list us ▸ ts)) h = tt
 form_holds {X} P word read n (list (atom w ▸ ts)) h = by_test (is w word) where
   by_test : (b : Bool) → Holds (λ x. (cond b (fits ts) misshapen ≡ fits (parts_of_fit (cond b (fits ts) misshapen))) × P (parts_of_fit (cond b (fits ts) misshapen)) x) (cond b (read n (n + 2) ts) (wrong Shape n))
-  by_test true = weaker (P ts) (λ x. (fits ts ≡ fits ts) × P ts x) (read n (n + 2) ts) (λ x p. (refl, p)) (h n (n + 2) ts)
+  by_test true = holds_weaker (P ts) (λ x. (fits ts ≡ fits ts) × P ts x) (read n (n + 2) ts) (λ x p. (refl, p)) (h n (n + 2) ts)
   by_test false = tt
 
 abbrev pub AllForms : List ℕ → Trees → Type 0
@@ -106,7 +106,7 @@ none_behind zero m none h = refl
 none_behind zero m (t ▸ ts) h = tt
 none_behind (suc k) m none h = absurd (omega (arith, h))
 none_behind (suc k) m (t ▸ ts) h =
-    weaker (λ (u : Unit {0}). tree_count ts ≡ k) (λ (u : Unit {0}). suc (tree_count ts) ≡ suc k) (ended_behind k (m + item_count t) ts (fine tt)) (λ u e. ap suc e) (none_behind k (m + item_count t) ts (omega (arith, h)))
+    holds_weaker (λ (u : Unit {0}). tree_count ts ≡ k) (λ (u : Unit {0}). suc (tree_count ts) ≡ suc k) (ended_behind k (m + item_count t) ts (fine tt)) (λ u e. ap suc e) (none_behind k (m + item_count t) ts (omega (arith, h)))
 
 enough : (n m : ℕ) → nat_lt n m ≡ false → m ≤ n
 enough n m h = grind (arith, nat_tests)
@@ -175,16 +175,16 @@ listed_counted limit i (atom v ▸ ts) (w ∷ ws) h = ap suc (listed_counted lim
 pub names_hold : (limit : ℕ) (names : List (List ℕ)) (base n : ℕ) (t : Tree) → Holds (λ ws. (length ws ≡ length (names_among (items_within t))) × (length ws ≤ limit)) (names_reading limit names base n t)
 names_hold limit names base n (atom w) = tt
 names_hold limit names base n (list ts) =
-    weaker (Each (IsListed limit) 0 ts) (λ ws. (length ws ≡ length (names_among ts)) × (length ws ≤ limit)) (placed_reading (listed_name_reading limit names base) 0 (n + 1) ts)
+    holds_weaker (Each (IsListed limit) 0 ts) (λ ws. (length ws ≡ length (names_among ts)) × (length ws ≤ limit)) (placed_reading (listed_name_reading limit names base) 0 (n + 1) ts)
     (λ ws h. (listed_counted limit 0 ts ws h, omega (arith, each_few (IsListed limit) limit (λ i t w p. p.0) 0 ts ws (omega arith) h)))
     (placed_holds (IsListed limit) (listed_name_reading limit names base) (listed_name_holds limit names base) 0 (n + 1) ts)
 
 -- as many names of columns as items
 pub section_holds : (word : List ℕ) (names : List (List ℕ)) (base n : ℕ) (t : Tree) → Holds (λ ws. length ws ≡ tree_count (parts_in word t)) (section_reading word names base n t)
 section_holds word names base n t =
-    weaker (λ ws. (form_fit word t ≡ fits (parts_in word t)) × (length ws ≡ tree_count (parts_in word t))) (λ ws. length ws ≡ tree_count (parts_in word t)) (section_reading word names base n t) (λ ws h. h.1)
+    holds_weaker (λ ws. (form_fit word t ≡ fits (parts_in word t)) × (length ws ≡ tree_count (parts_in word t))) (λ ws. length ws ≡ tree_count (parts_in word t)) (section_reading word names base n t) (λ ws h. h.1)
     (form_holds (λ ts ws. length ws ≡ tree_count ts) word (section_parts names base) n t
-    (λ n m ts. weaker (Each (λ i t w. Unit {0}) 0 ts) (λ ws. length ws ≡ tree_count ts) (section_parts names base n m ts) (λ ws h. each_counted (λ i t w. Unit {0}) 0 ts ws h)
+    (λ n m ts. holds_weaker (Each (λ i t w. Unit {0}) 0 ts) (λ ws. length ws ≡ tree_count ts) (section_parts names base n m ts) (λ ws h. each_counted (λ i t w. Unit {0}) 0 ts ws h)
     (placed_holds (λ i t w. Unit {0}) (column_name_reading names base) (λ i n t. any (column_name_reading names base i n t)) 0 m ts))) where
       any : {X : Type 0} (r : Reading X) → Holds (λ x. Unit {0}) r
       any (fine x) = tt

@@ -12,7 +12,7 @@ use Rattle.lc_term.proofs.Tests.{left_true, right_true}
 use Rattle.lc_reading.specs.Listed.{place_of}
 use Rattle.lc_object_text.proofs.ArrayHolds.{HaveSpans, columns_count}
 use Rattle.lc_object_text.proofs.BodiesHold.{at_seam, IsOperationOf, AreOperationsOf, ArePointsOf, BodyPoints, ArePoints}
-use Rattle.lc_object_text.proofs.BodyHolds.{first_local, variables_in, shifted}
+use Rattle.lc_object_text.proofs.BodyHolds.{first_local, variables_in, shifted_target}
 use Rattle.lc_object_text.proofs.CodeHolds.{AreTargets, Fits, IsLabel, IsRow}
 use Rattle.lc_object_text.proofs.Holding.{Counted}
 use Rattle.lc_object_text.proofs.Distinct.{is_between, few_between, not_false, as_many, not_among, one_after_other}
@@ -142,15 +142,15 @@ none_before n (suc width) k forms arrays h low =
     either_false (stands_in arrays n) (list_any (stands_in arrays) (numbers_from (suc n) width)) (before_spans k n forms arrays h (omega (arith, low))) (none_before (suc n) width k forms arrays h (omega (arith, low)))
 
 -- arrays in a row share no column
-pub apart : (k : ℕ) (forms : List Trees) (arrays : List Array) → HaveSpans (spans_from k forms) arrays → are_apart arrays ≡ true
-apart k [] [] h = refl
-apart k [] (array ∷ arrays) h = absurd h
-apart k (ts ∷ forms) [] h = absurd h
-apart k (ts ∷ forms) (array ∷ arrays) h =
+pub spans_are_apart : (k : ℕ) (forms : List Trees) (arrays : List Array) → HaveSpans (spans_from k forms) arrays → are_apart arrays ≡ true
+spans_are_apart k [] [] h = refl
+spans_are_apart k [] (array ∷ arrays) h = absurd h
+spans_are_apart k (ts ∷ forms) [] h = absurd h
+spans_are_apart k (ts ∷ forms) (array ∷ arrays) h =
     let width = tree_count (later ts) in
     and_true (not (list_any (stands_in arrays) array.columns)) (are_apart arrays)
     (not_false (list_any (stands_in arrays) array.columns) (ap (list_any (stands_in arrays)) h.0 ∙ none_before k width (k + width) forms arrays h.2 (omega arith)))
-    (apart (k + width) forms arrays h.2)
+    (spans_are_apart (k + width) forms arrays h.2)
 
 -- points
 in_front : {X : Type 0} (xs ys : List X) (i : ℕ) → i < length xs → slice_get (xs ++ ys) i ≡ slice_get xs i
@@ -256,7 +256,7 @@ bodies_are object d spans k p (b ∷ bs) (o ∷ os) qs before points_before e lo
     let at : slice_get object.operations k ≡ Some o = ap (slice_get object.operations) (sym long) ∙ ap (λ all. slice_get all (length before)) e ∙ at_seam before os o in
     let label : (i j : ℕ) → i ≡ length points_before + j → j < length own → is_label object k i ≡ true = λ i j place below. label_at object d b k points_before own others i j there c.fit place below in
     let labels : (l : ℕ) → IsLabel (body_names d b) l → is_label object k l ≡ true = λ l is.
-    let s = shifted b.first l (place_of b.labels is.0) is.1 in
+    let s = shifted_target b.first l (place_of b.labels is.0) is.1 in
     let below : s.0 < length b.labels = place_below b.labels is.0 s.0 s.1 in
     label l s.0 (omega (arith, s.2, c.first, far)) (omega (arith, below, c.counted)) in
     let entry : is_first object.points k o.entry ≡ true = entry_first object d b k points_before own others o.entry there c.fit (omega (arith, g.0.entry, c.first, far)) c.some early in

@@ -8,7 +8,7 @@ use Rattle.lc_sexp.specs.Parts.{fits, form_fit}
 use Rattle.lc_sexp.specs.TreeCode.{tree_count}
 use Rattle.lc_sexp.specs.Trees.{Tree, Trees, none, ◌▸◌, item_count}
 use Rattle.lc_text.specs.Terms.{pair}
-use Rattle.lc_reading.proofs.Holding.{Holds, held, both_holds, ended_holds, anything, weaker}
+use Rattle.lc_reading.proofs.Holding.{Holds, holds_of_fine, both_holds, ended_holds, holds_unit, holds_weaker}
 use Rattle.lc_reading.specs.Naming.{name_reading}
 use Rattle.lc_reading.specs.Readings.{fine}
 use Rattle.lc_object.specs.Syntax.{Operation, Point, Object}
@@ -16,7 +16,7 @@ use Rattle.lc_object.specs.WellFormed.{is_array, is_point, are_operations, are_a
 use Rattle.lc_object_text.proofs.ArrayHolds.{AreArrays, arrays_hold, concretes_counted, HaveSpans, spans_have}
 use Rattle.lc_object_text.proofs.BodiesHold.{AreBodies, bodies_hold, AreOperationsOf, ArePoints, bodies_fit}
 use Rattle.lc_object_text.proofs.Holding.{each_counted, each_few, each_form, parts_of_all, some_forms, parts_counted}
-use Rattle.lc_object_text.proofs.ObjectChecks.{BodiesAre, is_at_most, arrays_are, apart, bodies_are}
+use Rattle.lc_object_text.proofs.ObjectChecks.{BodiesAre, is_at_most, arrays_are, spans_are_apart, bodies_are}
 use Rattle.lc_object_text.proofs.SignatureHolds.{IsOperation, AreOperations, columns_behind, IsSpecification, specification_holds}
 use Rattle.lc_object_text.specs.ObjectNames.{Declared, Body, Call, first_text, later, call_of, names_of_columns, parts_in_first, points_in, bodies_due, bodies_from, abstracts_in, arrays_in, operations_in, spans_from, declared_in, declared_in_sections}
 use Rattle.lc_object_text.specs.Objects.{SpecificationText, Tables, tables_of, first_reading, array_reading, arrays_reading, auxiliaries_reading, tables_reading, bodies_reading, object_reading, specification_reading, second_form_reading, operations_from, points_of, object_of, file_reading}
@@ -67,8 +67,8 @@ tables_hold d s n =
     let name = first_reading (name_reading None []) n s.object.number s.object.trees in
     both_holds (λ named. AreArrays (arrays_in s) named.1) (λ ws. Unit {0}) (λ (tables : Tables). AreArrays (arrays_in s) tables.arrays) tables_of (arrays_reading d s n) (auxiliaries_reading d s n)
     (both_holds (λ w. Unit {0}) (AreArrays (arrays_in s)) (λ named. AreArrays (arrays_in s) named.1) pair name (lists_reading (codes "array") (array_reading d) 0 s.arrays.number s.arrays.trees)
-    (anything name) (arrays_hold d 0 s.arrays.number s.arrays.trees) (λ w arrays u h. h))
-    (anything (auxiliaries_reading d s n)) (λ named ws h u. h)
+    (holds_unit name) (arrays_hold d 0 s.arrays.number s.arrays.trees) (λ w arrays u h. h))
+    (holds_unit (auxiliaries_reading d s n)) (λ named ws h u. h)
 
 pub object_holds : (d : Declared) (s : Sections) (n : ℕ) → Holds (ObjectFits d s) (object_reading d s code_alone n)
 object_holds d s n =
@@ -129,23 +129,23 @@ object_is s text object h g =
     let spans : HaveSpans d.spans o.arrays = subst (λ n. HaveSpans (spans_from n (arrays_in s)) o.arrays) h.abstracts (spans_have (length text.abstracts) (arrays_in s) object.0.arrays g.0) in
     let all : BodiesAre o 0 0 o.operations o.points = bodies_are o d spans 0 0 d.bodies o.operations o.points [] [] refl refl refl refl refl c.operations_fit c.points_fit in
     and_six (are_apart o.arrays) (nat_le (length o.operations) operation_limit) (nat_le (length o.points) point_limit) (list_all (is_array o) o.arrays) (are_operations o 0 o.operations) (list_all (is_point o) o.points)
-    (apart d.abstracts (arrays_in s) o.arrays spans) (is_at_most (length o.operations) operation_limit c.few) (is_at_most (length o.points) point_limit (omega (arith, all.few)))
+    (spans_are_apart d.abstracts (arrays_in s) o.arrays spans) (is_at_most (length o.operations) operation_limit c.few) (is_at_most (length o.points) point_limit (omega (arith, all.few)))
     (arrays_are o d.abstracts (arrays_in s) o.arrays spans (omega (arith, h.abstracts)) (omega (arith, h.abstracts, concretes_counted (arrays_in s) object.0.arrays g.0))) all.operations all.points
 
 file_holds : (ts : Trees) → Holds (λ o. is_object o ≡ true) (file_reading ts)
 file_holds none = tt
 file_holds (t ▸ none) =
     both_holds (λ text. Unit {0}) (λ (object : Tables × List (BodyText Point)). ⊥) (λ o. is_object o ≡ true) object_of (specification_reading (declared_in (t ▸ none)) 0 t) _
-    (anything (specification_reading (declared_in (t ▸ none)) 0 t)) tt (λ text object u h. absurd h)
+    (holds_unit (specification_reading (declared_in (t ▸ none)) 0 t)) tt (λ text object u h. absurd h)
 file_holds (t ▸ u ▸ ts) =
     let s = sections_of (t ▸ u ▸ ts) in
     let d = declared_in (t ▸ u ▸ ts) in
     let m = 0 + item_count t in
     both_holds (SpecificationFits d s) (ObjectFits d s) (λ o. is_object o ≡ true) object_of (specification_reading d 0 t) (second_form_reading d s m (u ▸ ts))
-    (weaker (λ text. (form_fit (codes "spec") t ≡ fits (parts_in (codes "spec") t)) × IsSpecification d (parts_in (codes "spec") t) text) (SpecificationFits d s) (specification_reading d 0 t)
+    (holds_weaker (λ text. (form_fit (codes "spec") t ≡ fits (parts_in (codes "spec") t)) × IsSpecification d (parts_in (codes "spec") t) text) (SpecificationFits d s) (specification_reading d 0 t)
     (λ text h. specification_fits t u ts text h.0 h.1) (specification_holds d 0 t))
     (ended_holds (ObjectFits d s) (m + item_count u) ts (object_reading d s code_alone m) (object_holds d s m)) (object_is s)
 
 -- what a file reads as is an object
 pub is_well_formed : (ts : Trees) (o : Object) → file_reading ts ≡ fine o → is_object o ≡ true
-is_well_formed ts o e = held (λ o. is_object o ≡ true) (file_reading ts) o (file_holds ts) e
+is_well_formed ts o e = holds_of_fine (λ o. is_object o ≡ true) (file_reading ts) o (file_holds ts) e

@@ -39,8 +39,8 @@ stands_before (v ∷ vs) w (suc k) = step (is w v) (list_any (is w) (take k vs))
 pub not_placed : (vs : List (List ℕ)) (w : List ℕ) (k : ℕ) → place_of vs w ≡ None → false ≡ list_any (is w) (take k vs)
 not_placed vs w k e = sym (stands_before vs w k ∙ ap (is_before k) e)
 
-pub placed : (vs : List (List ℕ)) (w : List ℕ) (k p : ℕ) → place_of vs w ≡ Some p → nat_lt p k ≡ list_any (is w) (take k vs)
-placed vs w k p e = sym (stands_before vs w k ∙ ap (is_before k) e)
+pub placed_before_any : (vs : List (List ℕ)) (w : List ℕ) (k p : ℕ) → place_of vs w ≡ Some p → nat_lt p k ≡ list_any (is w) (take k vs)
+placed_before_any vs w k p e = sym (stands_before vs w k ∙ ap (is_before k) e)
 
 -- a name is among names and the first of those after them exactly if it is among either
 pub stands_behind : (us vs : List (List ℕ)) (w : List ℕ) (k : ℕ) → (list_any (is w) us || list_any (is w) (take k vs)) ≡ list_any (is w) (take (length us + k) (us ++ vs))

@@ -55,8 +55,8 @@ some_size (AtomItem a) = omega arith
 some_size (ListItem c) = omega arith
 
 -- one item fewer is left
-pub smaller : (c c' : Cursor) (item : Item) → GivesPart any_fit ShowsItem c (Ok item) c' → size c' < size c
-smaller c c' item h = omega (arith, taken c c' item h, some_size item)
+pub size_after_item : (c c' : Cursor) (item : Item) → GivesPart any_fit ShowsItem c (Ok item) c' → size c' < size c
+size_after_item c c' item h = omega (arith, taken c c' item h, some_size item)
 
 columns_from : (c c' : Cursor) (item : Item) (ts : Trees) → IsPart any_fit ShowsItem c ts (Ok item) c' → names_of_columns ts ≡ first_text (within_first ts) ∷ names_of_columns (rest_of c')
 columns_from c c' item none h = absurd (let e : Ok item ≡ Err _ = h.0 in cc)

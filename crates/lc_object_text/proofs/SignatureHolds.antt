@@ -8,7 +8,7 @@ use Rattle.lc_sexp.specs.Parts.{Fit, fits, misshapen, beyond, form_fit, integer_
 use Rattle.lc_sexp.specs.TreeCode.{tree_count}
 use Rattle.lc_sexp.specs.Trees.{Tree, Trees, atom, list, none, ◌▸◌, item_count}
 use Rattle.lc_text.specs.Terms.{pair}
-use Rattle.lc_reading.proofs.Holding.{Holds, both_holds, if_holds, anything, weaker, and_holds}
+use Rattle.lc_reading.proofs.Holding.{Holds, both_holds, if_holds, holds_unit, holds_weaker, and_holds}
 use Rattle.lc_reading.specs.Listed.{names_among}
 use Rattle.lc_reading.specs.Naming.{name_reading}
 use Rattle.lc_reading.specs.Readings.{Reading, fine, flawed, wrong, limited}
@@ -92,7 +92,7 @@ AreOperations d ts ss = (1 ≤ tree_count ts) × Each (IsOperation d) 0 ts ss
 signatures_hold : (d : Declared) (n m : ℕ) (ts : Trees) → Holds (AreOperations d ts) (signatures_reading d n m ts)
 signatures_hold d n m none = tt
 signatures_hold d n m (t ▸ ts) =
-    weaker (Each (IsOperation d) 0 (t ▸ ts)) (AreOperations d (t ▸ ts)) (signatures_reading d n m (t ▸ ts)) (λ ss h. (omega arith, h)) (placed_holds (IsOperation d) (signature_reading d) (signature_holds d) 0 m (t ▸ ts))
+    holds_weaker (Each (IsOperation d) 0 (t ▸ ts)) (AreOperations d (t ▸ ts)) (signatures_reading d n m (t ▸ ts)) (λ ss h. (omega arith, h)) (placed_holds (IsOperation d) (signature_reading d) (signature_holds d) 0 m (t ▸ ts))
 
 -- and its abstract columns
 abbrev pub columns_behind : Trees → ℕ
@@ -110,7 +110,7 @@ specification_parts_hold d n m (t ▸ u ▸ ts) =
     let p = m + item_count t in
     both_holds (λ ws. length ws ≡ tree_count (parts_in (codes "abstract") u)) (AreOperations d ts) (IsSpecification d (t ▸ u ▸ ts)) specification_of (abstracts_reading d m t p u) (signatures_reading d n (p + item_count u) ts)
     (both_holds (λ w. Unit {0}) (λ ws. length ws ≡ tree_count (parts_in (codes "abstract") u)) (λ ws. length ws ≡ tree_count (parts_in (codes "abstract") u)) behind_own_name (name_reading None [] m t)
-    (section_reading (codes "abstract") d.columns 0 p u) (anything (name_reading None [] m t)) (section_holds (codes "abstract") d.columns 0 p u) (λ w ws h g. g))
+    (section_reading (codes "abstract") d.columns 0 p u) (holds_unit (name_reading None [] m t)) (section_holds (codes "abstract") d.columns 0 p u) (λ w ws h g. g))
     (signatures_hold d n (p + item_count u) ts) (λ ws ss h g. record { abstracts = h; operations = g })
 
 pub specification_holds : (d : Declared) (n : ℕ) (t : Tree) → Holds (λ text. (form_fit (codes "spec") t ≡ fits (parts_in (codes "spec") t)) × IsSpecification d (parts_in (codes "spec") t) text) (specification_reading d n t)

@@ -15,9 +15,9 @@ use Rattle.lc_outline.specs.Development.{On, Outline}
 use Rattle.lc_outline.specs.Scope.{is_scoped, term_is_scoped, IsScoped, IsTermScoped, IsUpdateScoped, IsMarkingScoped, IsDeedScoped, IsConditionScoped, IsRiderScoped, IsOnScoped, IsOutlineScoped, IsActionScoped}
 use Rattle.lc_outline.specs.Scope.{marking_is_scoped, deed_is_scoped, condition_is_scoped, rider_is_scoped, on_is_scoped, outline_is_scoped, action_is_scoped}
 
-pub every : {A : Type 0} (P : A → Type 0) (p : A → Bool) → ((x : A) → p x ≡ true → P x) → (xs : List A) → list_all p xs ≡ true → Every P xs
-every P p f [] h = tt
-every P p f (x ∷ xs) h = (f x (left_true (p x) (list_all p xs) h), every P p f xs (right_true (p x) (list_all p xs) h))
+pub list_all_every : {A : Type 0} (P : A → Type 0) (p : A → Bool) → ((x : A) → p x ≡ true → P x) → (xs : List A) → list_all p xs ≡ true → Every P xs
+list_all_every P p f [] h = tt
+list_all_every P p f (x ∷ xs) h = (f x (left_true (p x) (list_all p xs) h), list_all_every P p f xs (right_true (p x) (list_all p xs) h))
 
 below : (k n : ℕ) → nat_lt k n ≡ true → k < n
 below k n e = grind (arith, nat_tests)
@@ -41,7 +41,7 @@ module _ (columns variables : ℕ) where
   deed (Marks k by) h =
       let a = marking_is_scoped columns variables k in
       let b = list_all (term_is_scoped columns variables) (given_in by) in
-      (marking k (left_true a b h), every (IsTermScoped columns variables) (term_is_scoped columns variables) (λ t e. e) (given_in by) (right_true a b h))
+      (marking k (left_true a b h), list_all_every (IsTermScoped columns variables) (term_is_scoped columns variables) (λ t e. e) (given_in by) (right_true a b h))
 
   condition : (f : Option Formula) → condition_is_scoped columns variables f ≡ true → IsConditionScoped columns variables f
   condition None h = tt
@@ -58,8 +58,8 @@ module _ (columns variables : ℕ) where
       let a = list_all (term_is_scoped columns variables) x.arguments in
       let b = list_all (rider_is_scoped columns variables) x.riders in
       record {
-        arguments = every (IsTermScoped columns variables) (term_is_scoped columns variables) (λ t e. e) x.arguments (left_true a b h);
-        riders = every (IsRiderScoped columns variables) (rider_is_scoped columns variables) rider x.riders (right_true a b h);
+        arguments = list_all_every (IsTermScoped columns variables) (term_is_scoped columns variables) (λ t e. e) x.arguments (left_true a b h);
+        riders = list_all_every (IsRiderScoped columns variables) (rider_is_scoped columns variables) rider x.riders (right_true a b h);
       }
 
   pub outline : (x : Outline) → outline_is_scoped columns variables x ≡ true → IsOutlineScoped columns variables x
@@ -67,13 +67,13 @@ module _ (columns variables : ℕ) where
       let a = list_all (is_scoped columns variables) x.asserts in
       let b = list_all (on_is_scoped columns variables) x.ons in
       record {
-        asserts = every (IsScoped columns variables) (is_scoped columns variables) (λ f e. e) x.asserts (left_true a b h);
-        ons = every (IsOnScoped columns variables) (on_is_scoped columns variables) on x.ons (right_true a b h);
+        asserts = list_all_every (IsScoped columns variables) (is_scoped columns variables) (λ f e. e) x.asserts (left_true a b h);
+        ons = list_all_every (IsOnScoped columns variables) (on_is_scoped columns variables) on x.ons (right_true a b h);
       }
 
-pub action : (columns : ℕ) (a : Action) → action_is_scoped columns a ≡ true → IsActionScoped columns a
-action columns a h =
+pub action_in_scope : (columns : ℕ) (a : Action) → action_is_scoped columns a ≡ true → IsActionScoped columns a
+action_in_scope columns a h =
     let n = 2 + length a.parameters in
     let guard = is_scoped columns n a.guard in
     let updates = list_all (update_is_resolved columns n) a.updates in
-    record { guard = left_true guard updates h; updates = every (IsUpdateScoped columns n) (update_is_resolved columns n) (update columns n) a.updates (right_true guard updates h) }
+    record { guard = left_true guard updates h; updates = list_all_every (IsUpdateScoped columns n) (update_is_resolved columns n) (update columns n) a.updates (right_true guard updates h) }

@@ -40,8 +40,8 @@ ons_few operations (p ∷ points) (x ∷ xs) (suc k) point h e =
     ons_few operations points xs k point (right_true (list_all (on_is_limited operations p.operation) x.ons) (outlines_are_limited operations points xs) h) e
 
 -- A development that passes is within its limits
-pub limited : (D : Development) → is_limited D ≡ true → IsLimited D
-limited D h =
+pub passed_is_limited : (D : Development) → is_limited D ≡ true → IsLimited D
+passed_is_limited D h =
     let operations = D.specification.operations in
     let a = nat_le (first_system D) column_limit in
     let b = nat_le (length D.actions) action_limit in

@@ -79,8 +79,8 @@ few_at object n (x ∷ os) (q ∷ qs) zero h m =
     (subst (λ j. j ≤ 3) m.0 a', subst (λ j. j ≤ 3) m.1 b')
 few_at object n (x ∷ os) (q ∷ qs) (suc k) h m = few_at object (suc n) os qs k (right_true (has_limits x && is_first object.points n x.entry) (are_operations object (suc n) os) h) m.3
 
-pub few : (D : Development) → IsResolved D → (o : ℕ) → (arity D.specification.operations o ≤ 3) × (op_replies D.specification.operations o ≤ 3)
-few D R o = few_at D.object 0 D.object.operations D.specification.operations o (operations_pass D.object R.object) R.operations
+pub arity_and_replies_few : (D : Development) → IsResolved D → (o : ℕ) → (arity D.specification.operations o ≤ 3) × (op_replies D.specification.operations o ≤ 3)
+arity_and_replies_few D R o = few_at D.object 0 D.object.operations D.specification.operations o (operations_pass D.object R.object) R.operations
 
 -- ---- the step of a call
 
@@ -88,9 +88,9 @@ branches_with : (found : Option Operation) (n : ℕ) → n ≡ arity_in found �
 branches_with None n e = refl
 branches_with (Some o) n e = subst (λ k. (if length o.arguments == k then o.branches else []) ≡ o.branches) (sym e) (if_true (length o.arguments == length o.arguments) o.branches [] (same_self (length o.arguments)))
 
-pub stepped : (operations : List Operation) (s : State) (c : ℕ) (call : Call) (choice : Choice) (o : ℕ) (numbers : List ℤ) (ws : List Write) (vs : List ℤ) → call.op ≡ o → call.numbers ≡ numbers →
+pub text_step_run : (operations : List Operation) (s : State) (c : ℕ) (call : Call) (choice : Choice) (o : ℕ) (numbers : List ℤ) (ws : List Write) (vs : List ℤ) → call.op ≡ o → call.numbers ≡ numbers →
     length call.numbers ≡ arity operations call.op → run s (call_env c (numbers ++ given_in choice)) (chosen choice (op_branches operations o)) ≡ Some (ws, vs) → text_step operations s c call choice ≡ Some (stored_all s ws, vs)
-stepped operations s c call choice o numbers ws vs is same whole e =
+text_step_run operations s c call choice o numbers ws vs is same whole e =
     let there : branches_for operations call ≡ op_branches operations o = branches_with (slice_get operations call.op) (length call.numbers) whole ∙ ap (op_branches operations) is in
     ap (option_map (outcome s)) ((λ i. run s (call_env c (same i ++ given_in choice)) (chosen choice (there i))) ∙ e)
 
@@ -104,5 +104,5 @@ padded_back (a ∷ b ∷ c ∷ []) le = refl
 padded_back (a ∷ b ∷ c ∷ d ∷ rest) le = absurd (omega arith)
 
 -- no guard of a specification has a quantifier
-pub grounds : (D : Development) → IsResolved D → (p : ℕ) → AreGround (op_branches D.specification.operations p)
-grounds D R p = ground_from (length D.specification.columns) (2 + arity D.specification.operations p) (op_branches D.specification.operations p) (all_resolved D R p)
+pub op_branches_ground : (D : Development) → IsResolved D → (p : ℕ) → AreGround (op_branches D.specification.operations p)
+op_branches_ground D R p = ground_from (length D.specification.columns) (2 + arity D.specification.operations p) (op_branches D.specification.operations p) (all_resolved D R p)

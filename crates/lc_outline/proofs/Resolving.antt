@@ -22,7 +22,7 @@ use Rattle.lc_outline.specs.Resolved.{IsBelow, IsTermBelow, AreArgumentsBelow, I
 use Rattle.lc_outline.specs.Resolved.{is_empty, has_some, is_matched, are_matched, is_auxiliary, deed_is_resolved, condition_is_resolved, rider_is_resolved, takes, on_is_resolved, action_is_resolved, edge_is_resolved, code_is_resolved, sides_are_scoped, is_resolved}
 use Rattle.lc_outline.specs.Scope.{is_scoped, outline_is_scoped, action_is_scoped, column_total, variables_at, outlines_are_scoped, IsScoped, IsTermScoped, IsUpdateScoped, IsOnScoped, IsOutlineScoped, IsActionScoped, AreScoped}
 use Rattle.lc_outline.proofs.InScope as I
-use Rattle.lc_outline.proofs.InScope.{every}
+use Rattle.lc_outline.proofs.InScope.{list_all_every}
 use Rattle.lc_outline.proofs.Scoped.{scoped_below, known_below}
 
 -- ---- lists
@@ -97,7 +97,7 @@ module _ (D : Development) where
   on o e None h = empty e.updates h
   on o e (Some x) h = (
     taken (slice_get D.actions x.action) (length x.arguments) (left_true (takes (slice_get D.actions x.action) (length x.arguments)) (list_all (rider_is_resolved D o) x.riders) h),
-    every (IsRiderResolved D o) (rider_is_resolved D o) (rider o) x.riders (right_true (takes (slice_get D.actions x.action) (length x.arguments)) (list_all (rider_is_resolved D o) x.riders) h),
+    list_all_every (IsRiderResolved D o) (rider_is_resolved D o) (rider o) x.riders (right_true (takes (slice_get D.actions x.action) (length x.arguments)) (list_all (rider_is_resolved D o) x.riders) h),
   )
 
   -- ---- formulas
@@ -141,7 +141,7 @@ module _ (D : Development) where
   IsStored u = u.column < column_count (first_system D)
 
   in_scope : (a : Action) → action_is_resolved D a ≡ true → IsActionScoped (column_total D) a
-  in_scope a h = I.action (column_total D) a (right_true (nat_le (length a.parameters) 3) (action_is_scoped (column_total D) a) h)
+  in_scope a h = I.action_in_scope (column_total D) a (right_true (nat_le (length a.parameters) 3) (action_is_scoped (column_total D) a) h)
 
   action : (a : Action) → action_is_resolved D a ≡ true → Every IsStored a.updates
   action a h = let n = 2 + length a.parameters in every_weaker (IsUpdateScoped (column_total D) n) IsStored (λ u e. e.column) a.updates (in_scope a h).updates
@@ -181,8 +181,8 @@ module _ (D : Development) where
       let b = list_all (is_scoped (column_total D) 2) D.idle in
       let c = outlines_are_scoped D D.object.points D.outlines in
       record {
-        invariant = every (IsScoped (column_total D) 1) (is_scoped (column_total D) 1) (λ f e. e) (invariant_of D) (left_true a b (left_true (a && b) c h));
-        idle = every (IsScoped (column_total D) 2) (is_scoped (column_total D) 2) (λ f e. e) D.idle (right_true a b (left_true (a && b) c h));
+        invariant = list_all_every (IsScoped (column_total D) 1) (is_scoped (column_total D) 1) (λ f e. e) (invariant_of D) (left_true a b (left_true (a && b) c h));
+        idle = list_all_every (IsScoped (column_total D) 2) (is_scoped (column_total D) 2) (λ f e. e) D.idle (right_true a b (left_true (a && b) c h));
         outlines = right_true (a && b) c h;
       }
 
@@ -206,8 +206,8 @@ module _ (D : Development) where
       }
 
 -- A development that passes is resolved
-pub resolved : (D : Development) → is_resolved D ≡ true → IsResolved D
-resolved D h =
+pub passed_is_resolved : (D : Development) → is_resolved D ≡ true → IsResolved D
+passed_is_resolved D h =
     let whole = all D h in
     let own = code D whole.code in
     let beside = sides D whole.sides in
@@ -218,8 +218,8 @@ resolved D h =
       operations = matched D.object.operations D.specification.operations own.operations;
       invariant = below D 1 (invariant_of D) beside.invariant;
       idle = below D 2 D.idle beside.idle;
-      actions = every (λ (a : Action). Every (IsStored D) a.updates) (action_is_resolved D) (action D) D.actions whole.actions;
-      parameters = every (λ (a : Action). length a.parameters ≤ 3) (action_is_resolved D) (three_at_most D) D.actions whole.actions;
+      actions = list_all_every (λ (a : Action). Every (IsStored D) a.updates) (action_is_resolved D) (action D) D.actions whole.actions;
+      parameters = list_all_every (λ (a : Action). length a.parameters ≤ 3) (action_is_resolved D) (three_at_most D) D.actions whole.actions;
       asserts = λ p point o here is. asserted D (slice_get D.outlines p) (variable_count o) (outlined_here D beside.outlines p point o here is);
       arguments = λ p point o here is. called D (slice_get D.outlines p) (variable_count o) (outlined_here D beside.outlines p point o here is);
       ons = λ e i. among (λ (x : Edge). IsOnResolved D (operation_at D.object x.point) x (on_at D x.point x.kind)) (edge_is_resolved D) (λ x. on D (operation_at D.object x.point) x (on_at D x.point x.kind)) (edges D.object) whole.edges e i;
@@ -233,6 +233,6 @@ all_scoped D h =
     record {
       invariant = beside.invariant;
       idle = beside.idle;
-      actions = every (IsActionScoped (column_total D)) (action_is_resolved D) (in_scope D) D.actions whole.actions;
+      actions = list_all_every (IsActionScoped (column_total D)) (action_is_resolved D) (in_scope D) D.actions whole.actions;
       outlines = outlined_here D beside.outlines;
     }

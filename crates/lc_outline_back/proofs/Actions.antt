@@ -3,7 +3,7 @@ use Rattle.std.proofs.Common.{◌≡◌, ℕ, ◌+◌, ◌≤◌, List, ◌++◌
 use Rattle.std.specs.Prelude.{codes, nat_le}
 use Rattle.lc_base.specs.Limits.{action_limit}
 use Rattle.lc_sexp.specs.Trees.{Tree, Trees, atom, list, none, ◌▸◌, item_count, item_count_of_all}
-use Rattle.lc_reading.proofs.Fine.{IfFine, weaker, mapped_fine, both_fine}
+use Rattle.lc_reading.proofs.Fine.{IfFine, if_fine_weaker, mapped_fine, both_fine}
 use Rattle.lc_reading.specs.Readings.{fine, both, behind_reading}
 use Rattle.lc_term.specs.Syntax.{Formula}
 use Rattle.lc_term.specs.SystemColumns.{system_columns}
@@ -66,7 +66,7 @@ module _ (known : Known) (columns : List (List ℕ)) (are : columns ≡ known.co
 
   heading_of : (i m : ℕ) (t : Tree) (n : ℕ) (u : Tree) → IfFine (heading_reading known i m t n u) (IsHeading i m t n u)
   heading_of i m t n u =
-      weaker (λ p. ((atom p.0 ≡ t) × (list (name_trees p.1) ≡ u)) × (heading_reading known i m t n u ≡ fine p)) (IsHeading i m t n u) (heading_reading known i m t n u) (λ p a. (a.0.0, a.0.1, a.1))
+      if_fine_weaker (λ p. ((atom p.0 ≡ t) × (list (name_trees p.1) ≡ u)) × (heading_reading known i m t n u ≡ fine p)) (IsHeading i m t n u) (heading_reading known i m t n u) (λ p a. (a.0.0, a.0.1, a.1))
       (with_reading (λ p. (atom p.0 ≡ t) × (list (name_trees p.1) ≡ u)) (heading_reading known i m t n u) (heading_stood known i m t n u))
 
   abbrev IsAction : ℕ → ℕ → ℕ → Trees → ActionParts → Type 0

@@ -1,7 +1,7 @@
 -- Lists after a word that read back as printed; conjuncts and actions.
 use Rattle.std.proofs.Common.{◌≡◌, ℕ, ◌+◌, ◌≤◌, Bool, true, false, cond, List, map, refl, sym, ap, ◌∙◌, subst, arith}
 use Rattle.lc_sexp.specs.Trees.{Tree, Trees, atom, list, none, ◌▸◌, item_count, row}
-use Rattle.lc_reading.proofs.Fine.{IfFine, weaker}
+use Rattle.lc_reading.proofs.Fine.{IfFine, if_fine_weaker}
 use Rattle.lc_reading.proofs.Words.{is-true}
 use Rattle.lc_reading.specs.Readings.{Reading, fine, flawed, wrong, behind_reading}
 use Rattle.lc_reading.specs.Rows.{each_reading}
@@ -26,7 +26,7 @@ module _ {X : Type 0} (tree : X → Tree) (read : ℕ → Tree → Reading X) (w
   form_at : (n : ℕ) (w : List ℕ) (ts : Trees) (b : Bool) → is w word ≡ b → IfFine (each_reading read (n + 2) ts) (RowAgain tree read (n + 2) ts)
       → IfFine (cond b (each_reading read (n + 2) ts) (wrong Shape n)) (FormAgain n (list (atom w ▸ ts)))
   form_at n w ts true is h =
-      weaker (RowAgain tree read (n + 2) ts) (FormAgain n (list (atom w ▸ ts))) (each_reading read (n + 2) ts)
+      if_fine_weaker (RowAgain tree read (n + 2) ts) (FormAgain n (list (atom w ▸ ts))) (each_reading read (n + 2) ts)
       (λ xs a. record { parts = ts; shape = ap (λ v. list (atom v ▸ ts)) (is-true w word is); again = a }) h
   form_at n w ts false is h = tt
 

@@ -5,7 +5,7 @@ use Rattle.std.specs.Fmt.{signed_decimal}
 use Rattle.std.specs.Prelude.{codes, suc, nat_le, option_map, slice_get}
 use Rattle.lc_base.specs.Limits.{column_limit, width_limit}
 use Rattle.lc_sexp.specs.Trees.{Tree, Trees, atom, list, none, ◌▸◌, item_count, row}
-use Rattle.lc_reading.proofs.Fine.{IfFine, weaker, both_fine}
+use Rattle.lc_reading.proofs.Fine.{IfFine, if_fine_weaker, both_fine}
 use Rattle.lc_reading.proofs.Words.{is-true}
 use Rattle.lc_reading.specs.Listed.{place_of}
 use Rattle.lc_reading.specs.Readings.{limited, listed_reading}
@@ -54,7 +54,7 @@ column_parts_stood names base i n m (t ▸ ts) =
 column_stood : (names : List (List ℕ)) (base i n : ℕ) (t : Tree) → IfFine (column_reading names base i n t) (λ c. concrete c ≡ t)
 column_stood names base i n (atom w) = tt
 column_stood names base i n (list ts) =
-    weaker (λ c. named_numbers c.name c.slope c.start ≡ ts) (λ c. concrete c ≡ list ts) (column_parts names base i n (n + 1) ts) (λ c e. ap list e) (column_parts_stood names base i n (n + 1) ts)
+    if_fine_weaker (λ c. named_numbers c.name c.slope c.start ≡ ts) (λ c. concrete c ≡ list ts) (column_parts names base i n (n + 1) ts) (λ c e. ap list e) (column_parts_stood names base i n (n + 1) ts)
 
 -- NAME COL+
 abbrev text_parts : ArrayText → Trees

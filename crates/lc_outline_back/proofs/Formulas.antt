@@ -10,7 +10,7 @@ use Rattle.lc_base.specs.declared.ids.ColId.{ColId}
 use Rattle.lc_sexp.specs.Numerals.{are_digits, natural_of, integer_of, negative_of, is_empty, value_of_digits}
 use Rattle.lc_sexp.specs.Parts.{integer_within}
 use Rattle.lc_sexp.specs.Trees.{Tree, Trees, none, ◌▸◌, item_count, item_count_of_all, row}
-use Rattle.lc_reading.proofs.Fine.{IfFine, weaker, both_fine}
+use Rattle.lc_reading.proofs.Fine.{IfFine, if_fine_weaker, both_fine}
 use Rattle.lc_reading.proofs.Words.{is-true}
 use Rattle.lc_reading.specs.Readings.{Reading, fine, flawed, both}
 use Rattle.lc_reading.specs.Rows.{each_reading}
@@ -107,7 +107,7 @@ module _ (names : Names) (by : Spelled) (spelled : IsSpelledSo names by) (free :
   pub formula_again : (n : ℕ) (t : Tree) → item_count t ≤ 4294967296 → IfFine (formula_reading names [] n t) (IsAgain n t)
   formula_again n t small =
       both_of (λ f. Alike Readable (formula_tree by 0 f) t) (λ f. formula_reading names [] n (formula_tree by 0 f) ≡ fine f) (formula_reading names [] n t) (formula_shape names by spelled n t)
-      (weaker (FormulaReadsBack names by 0) (λ f. formula_reading names [] n (formula_tree by 0 f) ≡ fine f) (formula_reading names [] n t) (λ f h. formula_back names by 0 n f (omega arith) h)
+      (if_fine_weaker (FormulaReadsBack names by 0) (λ f. formula_reading names [] n (formula_tree by 0 f) ≡ fine f) (formula_reading names [] n t) (λ f h. formula_back names by 0 n f (omega arith) h)
       (formula_kept names by spelled_back [] 0 n t refl (omega (arith, small))))
 
 -- ---- rows of what reads again

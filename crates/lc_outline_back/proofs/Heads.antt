@@ -6,7 +6,7 @@ use Rattle.lc_base.specs.NameText.{is_name}
 use Rattle.lc_base.specs.Limits.{local_limit, operation_limit, point_limit}
 use Rattle.lc_sexp.specs.TreeCode.{tree_count}
 use Rattle.lc_sexp.specs.Trees.{Tree, Trees, atom, list, none, ◌▸◌, item_count, row}
-use Rattle.lc_reading.proofs.Fine.{IfFine, anything, weaker, cond_fine, both_fine, mapped_fine, of_fine}
+use Rattle.lc_reading.proofs.Fine.{IfFine, if_fine_unit, if_fine_weaker, cond_fine, both_fine, mapped_fine, of_fine}
 use Rattle.lc_reading.specs.Listed.{names_among}
 use Rattle.lc_reading.specs.Naming.{use_reading, within, declaration_reading}
 use Rattle.lc_reading.specs.Readings.{Reading, fine, wrong, both}
@@ -93,7 +93,7 @@ signed_parts d i n m (t ▸ u ▸ v ▸ ts) =
     (operation_name_reading d i n m t) (call_reading arguments (m + item_count t) u (m + item_count t + item_count u) v)
     (limited_fine (λ w. (text_in t ≡ w) × (list_any (is w) (take i d.operations) ≡ false)) (nat_le operation_limit i) n (kth_name_reading d.operations i m t) (kth_new d.operations i m t))
     (both_fine (λ ws. list (name_trees ws) ≡ u) (λ k. Unit {0}) (λ (c : List (List ℕ) × ℕ). names_among (items_within u) ≡ c.0) pair (names_reading 3 arguments 0 (m + item_count t) u) (replies_reading (m + item_count t + item_count u) v)
-    (names_stood 3 arguments 0 (m + item_count t) u) (anything (replies_reading (m + item_count t + item_count u) v)) (λ ws k a b. names_within ws u a))
+    (names_stood 3 arguments 0 (m + item_count t) u) (if_fine_unit (replies_reading (m + item_count t + item_count u) v)) (λ ws k a b. names_within ws u a))
     (λ w c a b. record { name = a.0; arguments = b; new = a.1 })
 
 abbrev pub IsOperation : Declared → ℕ → Tree → Signature → Type 0
@@ -110,7 +110,7 @@ pub record HasOperations (d : Declared) (ts : Trees) (ss : List Signature) : Typ
 signed_row : (d : Declared) (n m : ℕ) (ts : Trees) → IfFine (signatures_reading d n m ts) (HasOperations d ts)
 signed_row d n m none = tt
 signed_row d n m (t ▸ ts) =
-    weaker (AreSigned d (t ▸ ts)) (HasOperations d (t ▸ ts)) (placed_reading (signature_reading d) 0 m (t ▸ ts)) (λ ss h. record { signed = h; some = λ e. absurd (let one : tree_count (t ▸ ts) ≡ tree_count none = ap tree_count e in cc) })
+    if_fine_weaker (AreSigned d (t ▸ ts)) (HasOperations d (t ▸ ts)) (placed_reading (signature_reading d) 0 m (t ▸ ts)) (λ ss h. record { signed = h; some = λ e. absurd (let one : tree_count (t ▸ ts) ≡ tree_count none = ap tree_count e in cc) })
     (each_placed (IsOperation d) (signature_reading d) (λ i n t. has_parts (IsSigned d i) (codes "op") (signature_parts d i) (signed_parts d i) n t) 0 m (t ▸ ts))
 
 specification_heads : (d : Declared) (n m : ℕ) (ts : Trees) → IfFine (specification_parts d n m ts) (λ (s : SpecificationText). HasOperations d (later (later ts)) s.signatures)
@@ -118,7 +118,7 @@ specification_heads d n m none = tt
 specification_heads d n m (t ▸ none) = tt
 specification_heads d n m (t ▸ u ▸ ts) =
     both_fine (λ ws. Unit {0}) (HasOperations d ts) (λ (s : SpecificationText). HasOperations d ts s.signatures) specification_of (abstracts_reading d m t (m + item_count t) u) _
-    (anything (abstracts_reading d m t (m + item_count t) u)) (signed_row d n (m + item_count t + item_count u) ts) (λ ws ss a b. b)
+    (if_fine_unit (abstracts_reading d m t (m + item_count t) u)) (signed_row d n (m + item_count t + item_count u) ts) (λ ws ss a b. b)
 
 -- (spec NAME (abstract ..) (op ..) ..)
 pub operations_read : (d : Declared) (n : ℕ) (t : Tree) → IfFine (specification_reading d n t) (HasParts (λ ts (s : SpecificationText). HasOperations d (later (later ts)) s.signatures) (codes "spec") (specification_parts d) t)
@@ -129,7 +129,7 @@ operations_read d n t = has_parts (λ ts (s : SpecificationText). HasOperations 
 beside_point : (known : Known) (names : Names) (own : Option Ways) (n : ℕ) (code : Tree) (shaped : Bool) (point : Reading Point) (m : ℕ) (ts : Trees) → IfFine (beside known names own n code shaped point m ts) (λ q. point ≡ fine q.0)
 beside_point known names own n code shaped point m none = tt
 beside_point known names own n code shaped point m (t ▸ ts) =
-    cond_fine (λ q. point ≡ fine q.0) _ (wrong Shape n) _ tt (both_fine (λ p. point ≡ fine p) (λ x. Unit {0}) (λ (q : Point × Outline). point ≡ fine q.0) pair point _ (itself_fine point) (anything _) (λ p x a b. a))
+    cond_fine (λ q. point ≡ fine q.0) _ (wrong Shape n) _ tt (both_fine (λ p. point ≡ fine p) (λ x. Unit {0}) (λ (q : Point × Outline). point ≡ fine q.0) pair point _ (itself_fine point) (if_fine_unit _) (λ p x a b. a))
 
 abbrev pub PointHead : ℕ → Trees → Point × Outline → Type 0
 PointHead o ts q = (first_text ts ≡ q.0.name) × (q.0.operation ≡ o)
@@ -139,7 +139,7 @@ module _ (d : Declared) (b : Body) (known : Known) (names : Names) (own : Option
   point_said i n m k name code =
       both_fine (λ w. atom w ≡ name) (λ x. Unit {0}) (λ (p : Point). (text_in name ≡ p.name) × (p.operation ≡ o)) (point_of o) (point_name_reading d i n m name)
       (instruction_reading (code_names d b) (body_names d b) k code)
-      (limited_fine (λ w. atom w ≡ name) (nat_le point_limit i) n (kth_name_reading d.points i m name) (kth_stood d.points i m name)) (anything (instruction_reading (code_names d b) (body_names d b) k code))
+      (limited_fine (λ w. atom w ≡ name) (nat_le point_limit i) n (kth_name_reading d.points i m name) (kth_stood d.points i m name)) (if_fine_unit (instruction_reading (code_names d b) (body_names d b) k code))
       (λ w x a c. (text_of w name a, refl))
 
   point_heads : (i n m : ℕ) (ts : Trees) → IfFine (point_parts d b (beside known names own) o i n m ts) (PointHead o ts)
@@ -148,7 +148,7 @@ module _ (d : Declared) (b : Body) (known : Known) (names : Names) (own : Option
   point_heads i n m (name ▸ code ▸ ts) =
       let instruction = instruction_reading (code_names d b) (body_names d b) (m + item_count name) code in
       let point = both (point_of o) (point_name_reading d (b.first + i) n m name) instruction in
-      weaker (λ (q : Point × Outline). point ≡ fine q.0) (PointHead o (name ▸ code ▸ ts)) (beside known names own n code (is_shaped instruction) point (m + item_count name + item_count code) ts)
+      if_fine_weaker (λ (q : Point × Outline). point ≡ fine q.0) (PointHead o (name ▸ code ▸ ts)) (beside known names own n code (is_shaped instruction) point (m + item_count name + item_count code) ts)
       (λ q e. of_fine (λ (p : Point). (text_in name ≡ p.name) × (p.operation ≡ o)) point q.0 (point_said (b.first + i) n m (m + item_count name) name code) e)
       (beside_point known names own n code (is_shaped instruction) point (m + item_count name + item_count code) ts)
 
@@ -229,7 +229,7 @@ due_read : (d : Declarations) (i : ℕ) (o : Option Body) → slice_get d.declar
 due_read d i None e n t = tt
 due_read d i (Some b) e n t =
     let read = body_parts d.declared b (beside (known_of d) (names_in d b) (own_ways d i)) i in
-    weaker (HasParts (BodyHead b.operation i) (codes "body") read t) (IsText d i t) (body_reading d.declared b (beside (known_of d) (names_in d b) (own_ways d i)) i n t)
+    if_fine_weaker (HasParts (BodyHead b.operation i) (codes "body") read t) (IsText d i t) (body_reading d.declared b (beside (known_of d) (names_in d b) (own_ways d i)) i n t)
     (λ x h. record { body = b; due = e; parts = h.0; form = h.1; head = h.2 })
     (has_parts (BodyHead b.operation i) (codes "body") read (body_heads d.declared b (known_of d) (names_in d b) (own_ways d i) i) n t)
 
@@ -244,5 +244,5 @@ bodies_read d n m ts = at (nat_lt (tree_count ts) (bodies_due (length d.declared
     at : (c : Bool) → nat_lt (tree_count ts) (bodies_due (length d.declared.operations)) ≡ c → IfFine (cond c (wrong Shape n) (placed_reading (ith_reading d) 0 m ts)) (AreTexts d ts)
     at true e = tt
     at false e =
-        weaker (Each (IsText d) 0 ts) (AreTexts d ts) (placed_reading (ith_reading d) 0 m ts) (λ xs h. record { each = h; enough = e })
+        if_fine_weaker (Each (IsText d) 0 ts) (AreTexts d ts) (placed_reading (ith_reading d) 0 m ts) (λ xs h. record { each = h; enough = e })
         (each_placed (IsText d) (ith_reading d) (λ i n t. due_read d i (slice_get d.declared.bodies i) refl n t) 0 m ts)

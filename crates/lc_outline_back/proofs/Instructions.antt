@@ -4,7 +4,7 @@ use Rattle.std.specs.Prelude.{codes, option_map}
 use Rattle.std.specs.List.{list_any}
 use Rattle.lc_base.specs.NameText.{is_name}
 use Rattle.lc_sexp.specs.Trees.{Tree, Trees, atom, list, none, ◌▸◌, item_count, row}
-use Rattle.lc_reading.proofs.Fine.{IfFine, anything, weaker, cond_fine, both_fine}
+use Rattle.lc_reading.proofs.Fine.{IfFine, if_fine_unit, if_fine_weaker, cond_fine, both_fine}
 use Rattle.lc_reading.proofs.Words.{is-true}
 use Rattle.lc_reading.specs.Listed.{declared_by}
 use Rattle.lc_reading.specs.Naming.{known, known_reading}
@@ -49,7 +49,7 @@ module _ {X : Type 0} (tree : X → Tree) where
       → IfFine (row_reading due read n t) (λ xs. list (row (map tree xs)) ≡ t)
   counted_list due read h n (atom w) = tt
   counted_list due read h n (list ts) =
-      both_fine (λ u. Unit {0}) (IsRow tree ts) (λ xs. list (row (map tree xs)) ≡ list ts) second (count_reading due n (n + 1) ts) (read (n + 1) ts) (anything (count_reading due n (n + 1) ts)) (h (n + 1) ts)
+      both_fine (λ u. Unit {0}) (IsRow tree ts) (λ xs. list (row (map tree xs)) ≡ list ts) second (count_reading due n (n + 1) ts) (read (n + 1) ts) (if_fine_unit (count_reading due n (n + 1) ts)) (h (n + 1) ts)
       (λ u xs a b. ap list b)
 
 module _ (names : Names) (code : CodeNames) (by : Spelled) (object : Object) (all : AreCodeNames names code by object) where
@@ -107,7 +107,7 @@ module _ (names : Names) (code : CodeNames) (by : Spelled) (object : Object) (al
   assignments_stood : (n : ℕ) (t : Tree) → IfFine (assignments_reading names code n t) (λ cells. list (assigned cells) ≡ t)
   assignments_stood n (atom w) = tt
   assignments_stood n (list ts) =
-      weaker (IsRow cell_tree ts) (λ cells. list (assigned cells) ≡ list ts) (declared_reading (assignment_reading names code) first_name [] (n + 1) ts) (λ cells e. ap list (cells_are cells ∙ e))
+      if_fine_weaker (IsRow cell_tree ts) (λ cells. list (assigned cells) ≡ list ts) (declared_reading (assignment_reading names code) first_name [] (n + 1) ts) (λ cells e. ap list (cells_are cells ∙ e))
       (declared_row cell_tree (assignment_reading names code) first_name assignment_stood [] (n + 1) ts)
 
   -- ---- what comes after a word
@@ -237,7 +237,7 @@ module _ (names : Names) (code : CodeNames) (by : Spelled) (object : Object) (al
   return_stood : (n m : ℕ) (ts : Trees) → IfFine (return_reading names code n m ts) (IsAs (codes "return") ts)
   return_stood n m ts =
       both_fine (λ u. Unit {0}) (IsRow (term_tree by 0) ts) (IsAs (codes "return") ts) return_of (count_reading code.replies n m ts) (each_reading (term_reading names []) m ts)
-      (anything (count_reading code.replies n m ts)) (each_row (term_tree by 0) (term_reading names []) terms_stood m ts) (λ u vs a e. ap (λ ts. list (atom (codes "return") ▸ ts)) e)
+      (if_fine_unit (count_reading code.replies n m ts)) (each_row (term_tree by 0) (term_reading names []) terms_stood m ts) (λ u vs a e. ap (λ ts. list (atom (codes "return") ▸ ts)) e)
 
   behind_stood : (n : ℕ) (w : List ℕ) (ts : Trees) (b : Bool) → is w (codes "return") ≡ b
       → IfFine (cond b (return_reading names code n (n + 2) ts) (code_reading names code n (n + 2) ts (head_of w))) (IsAs w ts)

@@ -1,7 +1,7 @@
 -- What is printed of what is read: trees of the same shape that say the same about what is declared, and read as the same.
 use Rattle.std.proofs.Common.{◌≡◌, ℕ, ◌+◌, ◌≤◌, Bool, true, false, cond, List, [], ◌∷◌, map, refl, sym, ap, ap₂, ◌∙◌, subst, arith}
 use Rattle.lc_sexp.specs.Trees.{Tree, Trees, atom, list, none, ◌▸◌, item_count, item_count_of_all, row}
-use Rattle.lc_reading.proofs.Fine.{IfFine, both_fine, weaker}
+use Rattle.lc_reading.proofs.Fine.{IfFine, both_fine, if_fine_weaker}
 use Rattle.lc_reading.proofs.Words.{is-true}
 use Rattle.lc_reading.specs.Flaws.{at}
 use Rattle.lc_reading.specs.Readings.{Reading, fine, flawed, wrong, mapped, both, limited, behind_reading}
@@ -49,12 +49,12 @@ mapped_again K f read t u x a = record { alike = a.alike; kin = a.kin; reads = a
 -- within a limit
 limited_at : {X : Type 0} (P : X → Type 0) (beyond : Bool) (n : ℕ) (r : Reading X) → IfFine r P → IfFine (limited beyond n r) (λ x. P x × (beyond ≡ false))
 limited_at P true n r h = flawed_fine (λ x. P x × (true ≡ false)) (at Bound n) r
-limited_at P false n r h = weaker P (λ x. P x × (false ≡ false)) r (λ x p. (p, refl)) h
+limited_at P false n r h = if_fine_weaker P (λ x. P x × (false ≡ false)) r (λ x p. (p, refl)) h
 
 pub limited_again : {X : Type 0} (N : X → Type 0) (K : Tree → Tree → Type 0) (beyond : Bool) (n : ℕ) (read : Tree → Reading X) (tree : X → Tree) (u : Tree)
     → IfFine (read u) (λ x. N x → Again K read (tree x) u x) → IfFine (limited beyond n (read u)) (λ x. N x → Again K (λ t. limited beyond n (read t)) (tree x) u x)
 limited_again N K beyond n read tree u h =
-    weaker (λ x. (N x → Again K read (tree x) u x) × (beyond ≡ false)) (λ x. N x → Again K (λ t. limited beyond n (read t)) (tree x) u x) (limited beyond n (read u))
+    if_fine_weaker (λ x. (N x → Again K read (tree x) u x) × (beyond ≡ false)) (λ x. N x → Again K (λ t. limited beyond n (read t)) (tree x) u x) (limited beyond n (read u))
     (λ x p named. record {
       alike = (p.0 named).alike;
       kin = (p.0 named).kin;
@@ -77,7 +77,7 @@ module _ {X : Type 0} (N : X → Type 0) (R : Trees → Trees → Type 0) (word 
   behind_at : (n : ℕ) (w : List ℕ) (ts : Trees) (b : Bool) → is w word ≡ b → IfFine (read n (n + 2) ts) (λ x. N x → AllAgain R (read n (n + 2)) (parts x) ts x)
       → IfFine (cond b (read n (n + 2) ts) (wrong Shape n)) (IsBehind n (list (atom w ▸ ts)))
   behind_at n w ts true e h =
-      weaker (λ x. N x → AllAgain R (read n (n + 2)) (parts x) ts x) (IsBehind n (list (atom w ▸ ts))) (read n (n + 2) ts)
+      if_fine_weaker (λ x. N x → AllAgain R (read n (n + 2)) (parts x) ts x) (IsBehind n (list (atom w ▸ ts))) (read n (n + 2) ts)
       (λ x k named. subst (λ v. Again (AreBehind word R) (behind_reading word read n) (list (atom word ▸ parts x)) (list (atom v ▸ ts)) x) (sym (is-true w word e)) (behind_one n ts x (k named))) h
   behind_at n w ts false e h = tt
 

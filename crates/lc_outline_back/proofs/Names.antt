@@ -4,7 +4,7 @@ use Rattle.std.specs.List.{list_any}
 use Rattle.std.specs.Prelude.{suc, nat_le, option_map, take, ◌||◌}
 use Rattle.lc_base.specs.NameText.{is_name}
 use Rattle.lc_sexp.specs.Trees.{Tree, atom, list}
-use Rattle.lc_reading.proofs.Fine.{IfFine, weaker, cond_fine}
+use Rattle.lc_reading.proofs.Fine.{IfFine, if_fine_weaker, cond_fine}
 use Rattle.lc_reading.proofs.Words.{is-true}
 use Rattle.lc_reading.specs.Listed.{place_of}
 use Rattle.lc_reading.specs.Naming.{use_reading, known}
@@ -27,7 +27,7 @@ listed_stood limit names base i n t = limited_fine (λ w. atom w ≡ t) (nat_le 
 pub names_stood : (limit : ℕ) (names : List (List ℕ)) (base n : ℕ) (t : Tree) → IfFine (names_reading limit names base n t) (λ ws. list (name_trees ws) ≡ t)
 names_stood limit names base n (atom w) = tt
 names_stood limit names base n (list ts) =
-    weaker (IsRow atom ts) (λ ws. list (name_trees ws) ≡ list ts) (placed_reading (listed_name_reading limit names base) 0 (n + 1) ts) (λ ws e. ap list e)
+    if_fine_weaker (IsRow atom ts) (λ ws. list (name_trees ws) ≡ list ts) (placed_reading (listed_name_reading limit names base) 0 (n + 1) ts) (λ ws e. ap list e)
     (placed_row atom (listed_name_reading limit names base) (listed_stood limit names base) 0 (n + 1) ts)
 
 -- ---- the expected name

@@ -7,9 +7,9 @@ use Rattle.std.specs.Fmt.{decimal, signed_decimal}
 use Rattle.lc_sexp.specs.Numerals.{are_digits, value_of_digits, is_empty, natural_of, integer_of, negative_of}
 use Rattle.lc_sexp.specs.Parts.{fits, beyond, fits_i64, integer_within}
 use Rattle.lc_sexp.specs.Trees.{Tree, atom, list}
-use Rattle.lc_reading.proofs.Fine.{IfFine, weaker, of_fine}
+use Rattle.lc_reading.proofs.Fine.{IfFine, if_fine_weaker, of_fine}
 use Rattle.lc_reading.specs.Readings.{fine}
-use Rattle.lc_text.proofs.Numerals.{own}
+use Rattle.lc_text.proofs.Numerals.{decimal_numeral_model}
 use Rattle.lc_text.specs.Terms.{fit_reading, number_reading}
 
 -- a single digit, or a first digit that is not 0
@@ -22,7 +22,7 @@ natural_as : (b : ℕ) (w : List ℕ) (n : ℕ) (both : Bool) → (are_digits (b
 natural_as b w n true h small e =
     let p = and_parts (are_digits (b ∷ w)) (is_empty w || not (b == 48)) h in
     let value : value_of_digits (b ∷ w) ≡ n = cc in
-    ap decimal (sym value) ∙ decimal-digits_value own (b ∷ w) p.0 (omega arith) (no_leading b w p.1) (omega (arith, value, small))
+    ap decimal (sym value) ∙ decimal-digits_value decimal_numeral_model (b ∷ w) p.0 (omega arith) (no_leading b w p.1) (omega (arith, value, small))
 natural_as b w n false h small e = absurd (cc)
 
 -- digits are those of their number
@@ -72,7 +72,7 @@ pub number_as_stood : (n : ℕ) (w : List ℕ) → IfFine (number_reading n (ato
 number_as_stood n w = number_of n w (integer_of w) refl
 
 pub numbers_as : (n : ℕ) (t : Tree) → IfFine (number_reading n t) (λ z. atom (signed_decimal z) ≡ t)
-numbers_as n (atom w) = weaker (λ z. signed_decimal z ≡ w) (λ z. atom (signed_decimal z) ≡ atom w) (number_reading n (atom w)) (λ z e. ap atom e) (number_as_stood n w)
+numbers_as n (atom w) = if_fine_weaker (λ z. signed_decimal z ≡ w) (λ z. atom (signed_decimal z) ≡ atom w) (number_reading n (atom w)) (λ z e. ap atom e) (number_as_stood n w)
 numbers_as n (list ts) = tt
 
 pub printed_number : (n : ℕ) (t : Tree) (z : ℤ) → number_reading n t ≡ fine z → atom (signed_decimal z) ≡ t

@@ -4,7 +4,7 @@ use Rattle.std.specs.Prelude.{codes, nat_le, nat_lt, slice_get}
 use Rattle.lc_base.specs.Limits.{point_limit}
 use Rattle.lc_sexp.specs.TreeCode.{tree_count}
 use Rattle.lc_sexp.specs.Trees.{Tree, Trees, atom, list, none, ◌▸◌, item_count, item_count_of_all, row}
-use Rattle.lc_reading.proofs.Fine.{IfFine, weaker, both_fine, of_fine}
+use Rattle.lc_reading.proofs.Fine.{IfFine, if_fine_weaker, both_fine, of_fine}
 use Rattle.lc_reading.specs.Naming.{use_reading}
 use Rattle.lc_reading.specs.Readings.{Reading, fine, wrong, both}
 use Rattle.lc_reading.specs.declared.pass.Pass.TheVariants.{Shape}
@@ -165,7 +165,7 @@ module _ (known : Known) (names : Names) (by : Spelled) (object : Object) (actio
     parts_again i n m (name ▸ code ▸ none) small = tt
     parts_again i n m (name ▸ code ▸ t ▸ ts) small =
         let at = m + item_count name + item_count code in
-        weaker (IsBeside own n code (is_shaped (instruction_at m name code)) (point_at i n m name code) at t ts)
+        if_fine_weaker (IsBeside own n code (is_shaped (instruction_at m name code)) (point_at i n m name code) at t ts)
         (λ q. Unit {0} → AllAgain SamePoint (point_parts d b side o i n m) (parts_of q) (name ▸ code ▸ t ▸ ts) q) (point_parts d b side o i n m (name ▸ code ▸ t ▸ ts)) (λ q a u. joined i n m name code t ts q a)
         (beside_again own n code (is_shaped (instruction_at m name code)) (point_at i n m name code) at t ts (omega (arith, small)))
 
@@ -196,7 +196,7 @@ module _ (known : Known) (names : Names) (by : Spelled) (object : Object) (actio
     points_again : (n m : ℕ) (ts : Trees) → item_count_of_all ts ≤ 4294967296 → IfFine (points_reading d b side o n m ts) (AreAgain n m ts)
     points_again n m none small = tt
     points_again n m (t ▸ ts) small =
-        weaker (λ qs. AllNamed (λ q. Unit {0}) qs → AllAgain (Pairwise K) (placed_reading (point_reading d b side o) 0 m) (placed_trees (λ i. tree_of) 0 qs) (t ▸ ts) qs) (AreAgain n m (t ▸ ts))
+        if_fine_weaker (λ qs. AllNamed (λ q. Unit {0}) qs → AllAgain (Pairwise K) (placed_reading (point_reading d b side o) 0 m) (placed_trees (λ i. tree_of) 0 qs) (t ▸ ts) qs) (AreAgain n m (t ▸ ts))
         (placed_reading (point_reading d b side o) 0 m (t ▸ ts)) (λ qs h. some_points n m t ts qs (h (any_names qs)))
         (placed_again (λ q. Unit {0}) K (point_reading d b side o) (λ i. tree_of) point_again 0 m (t ▸ ts) small)
 
@@ -210,7 +210,7 @@ module _ (known : Known) (names : Names) (by : Spelled) (object : Object) (actio
 
     locals_again : (i : ℕ) (t : Tree) (j : ℕ) (u : Tree) → is_of_another d.operations b.operation t ≡ false → IfFine (locals_reading d b i t j u) (AreLocals i t j u)
     locals_again i t j u e =
-        weaker (λ ws. ((atom b.operation ≡ t) × (list (name_trees ws) ≡ u)) × (locals_reading d b i t j u ≡ fine ws)) (AreLocals i t j u) (locals_reading d b i t j u) (λ ws a. (a.0.0, a.0.1, a.1))
+        if_fine_weaker (λ ws. ((atom b.operation ≡ t) × (list (name_trees ws) ≡ u)) × (locals_reading d b i t j u ≡ fine ws)) (AreLocals i t j u) (locals_reading d b i t j u) (λ ws a. (a.0.0, a.0.1, a.1))
         (with_reading (λ ws. (atom b.operation ≡ t) × (list (name_trees ws) ≡ u)) (locals_reading d b i t j u)
         (both_fine (λ k. atom b.operation ≡ t) (λ ws. list (name_trees ws) ≡ u) (λ ws. (atom b.operation ≡ t) × (list (name_trees ws) ≡ u)) behind_name (use_reading d.operations i t)
         (names_reading 16 (b.call.arguments ++ b.locals) (length b.call.arguments) j u) (due_stood d.operations b.operation i t e)
@@ -296,7 +296,7 @@ module _ (d : Declarations) (columns : List (List ℕ)) (object : Object) (actio
         at : (c : Bool) → nat_lt (tree_count ts) (bodies_due (length d.declared.operations)) ≡ c → IfFine (cond c (wrong Shape n) (placed_reading (ith_reading d) 0 m ts)) (AreBodies n m ts)
         at true e = tt
         at false e =
-            weaker (λ xs. AllNamed (λ x. Unit {0}) xs → AllAgain (Pairwise (AreBehind (codes "body") SameBody)) (placed_reading (ith_reading d) 0 m) (placed_trees ith_tree 0 xs) ts xs) (AreBodies n m ts)
+            if_fine_weaker (λ xs. AllNamed (λ x. Unit {0}) xs → AllAgain (Pairwise (AreBehind (codes "body") SameBody)) (placed_reading (ith_reading d) 0 m) (placed_trees ith_tree 0 xs) ts xs) (AreBodies n m ts)
             (placed_reading (ith_reading d) 0 m ts)
             (λ xs h. let a = h (any_texts xs) in record {
               alike = a.alike;

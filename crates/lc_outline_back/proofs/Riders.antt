@@ -4,7 +4,7 @@ use Rattle.std.specs.Prelude.{codes, nat_lt, nat_le, length, ◌&&◌, if◌then
 use Rattle.lc_base.specs.NameText.{is_name}
 use Rattle.lc_base.specs.Limits.{path_limit, rider_limit}
 use Rattle.lc_sexp.specs.Trees.{Tree, Trees, atom, list, none, ◌▸◌, item_count, row}
-use Rattle.lc_reading.proofs.Fine.{IfFine, anything, cond_fine, mapped_fine, both_fine}
+use Rattle.lc_reading.proofs.Fine.{IfFine, if_fine_unit, cond_fine, mapped_fine, both_fine}
 use Rattle.lc_reading.proofs.Words.{is-true}
 use Rattle.lc_reading.specs.Naming.{within, spelled_reading, use_reading}
 use Rattle.lc_reading.specs.Readings.{Reading, fine, wrong, mapped, ended, three_of}
@@ -139,7 +139,7 @@ module _ (known : Known) (names : Names) (by : Spelled) (object : Object) (actio
   choice_use_stood None n (atom w) =
       cond_fine (λ v. atom v ≡ atom w) (is_name w) (within n w w) (wrong Shape n) (cond_fine (λ v. atom v ≡ atom w) (is_long w) (wrong Bound n) (fine w) tt refl) tt
   choice_use_stood (Some ways) n (atom w) =
-      mapped_fine (λ k. Unit {0}) (λ v. atom v ≡ atom w) (λ k. w) (use_reading ways.choices n (atom w)) (anything (use_reading ways.choices n (atom w))) (λ k u. refl)
+      mapped_fine (λ k. Unit {0}) (λ v. atom v ≡ atom w) (λ k. w) (use_reading ways.choices n (atom w)) (if_fine_unit (use_reading ways.choices n (atom w))) (λ k u. refl)
   choice_use_stood None n (list ts) = tt
   choice_use_stood (Some ways) n (list ts) = tt
 

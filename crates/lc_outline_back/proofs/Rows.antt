@@ -3,7 +3,7 @@ use Rattle.std.proofs.Common.{◌≡◌, ℕ, ◌+◌, Bool, true, false, cond, 
 use Rattle.std.specs.Prelude.{suc, zero, option_map, slice_index_or}
 use Rattle.lc_base.specs.NameText.{is_name}
 use Rattle.lc_sexp.specs.Trees.{Tree, Trees, atom, list, none, ◌▸◌, item_count, row}
-use Rattle.lc_reading.proofs.Fine.{IfFine, anything, weaker, cond_fine, mapped_fine, both_fine}
+use Rattle.lc_reading.proofs.Fine.{IfFine, if_fine_unit, if_fine_weaker, cond_fine, mapped_fine, both_fine}
 use Rattle.lc_reading.proofs.Words.{is-true}
 use Rattle.lc_reading.specs.Flaws.{at}
 use Rattle.lc_reading.specs.Listed.{place_of, declared_by}
@@ -50,12 +50,12 @@ module _ {X : Type 0} (tree : X → Tree) where
 module _ {X : Type 0} (parts : X → Trees) where
   pub in_list : (read : ℕ → ℕ → Trees → Reading X) → ((n m : ℕ) (ts : Trees) → IfFine (read n m ts) (λ x. parts x ≡ ts)) → (n : ℕ) (t : Tree) → IfFine (listed_reading read n t) (λ x. list (parts x) ≡ t)
   in_list read h n (atom w) = tt
-  in_list read h n (list ts) = weaker (λ x. parts x ≡ ts) (λ x. list (parts x) ≡ list ts) (read n (n + 1) ts) (λ x e. ap list e) (h n (n + 1) ts)
+  in_list read h n (list ts) = if_fine_weaker (λ x. parts x ≡ ts) (λ x. list (parts x) ≡ list ts) (read n (n + 1) ts) (λ x e. ap list e) (h n (n + 1) ts)
 
   behind_at : (word w : List ℕ) (b : Bool) (r : Reading X) (n : ℕ) (ts : Trees) → is w word ≡ b → IfFine r (λ x. parts x ≡ ts)
       → IfFine (cond b r (wrong Shape n)) (λ x. list (atom word ▸ parts x) ≡ list (atom w ▸ ts))
   behind_at word w true r n ts is h =
-      weaker (λ x. parts x ≡ ts) (λ x. list (atom word ▸ parts x) ≡ list (atom w ▸ ts)) r (λ x e. ap list (both_trees _ _ _ _ (ap atom (sym (is-true w word is))) e)) h
+      if_fine_weaker (λ x. parts x ≡ ts) (λ x. list (atom word ▸ parts x) ≡ list (atom w ▸ ts)) r (λ x e. ap list (both_trees _ _ _ _ (ap atom (sym (is-true w word is))) e)) h
   behind_at word w false r n ts is h = tt
 
   pub behind_word : (word : List ℕ) (read : ℕ → ℕ → Trees → Reading X) → ((n m : ℕ) (ts : Trees) → IfFine (read n m ts) (λ x. parts x ≡ ts)) → (n : ℕ) (t : Tree)
@@ -86,7 +86,7 @@ three_at {X} {Y} P Q R S f m t u v ts r s q h g i k =
 pub name_stood : (limit : Option ℕ) (before : List (List ℕ)) (n : ℕ) (t : Tree) → IfFine (name_reading limit before n t) (λ w. atom w ≡ t)
 name_stood limit before n (list ts) = tt
 name_stood limit before n (atom w) =
-    mapped_fine (λ u. Unit {0}) (λ v. atom v ≡ atom w) (λ u. w) (declaration_reading limit before n (atom w)) (anything (declaration_reading limit before n (atom w))) (λ u e. refl)
+    mapped_fine (λ u. Unit {0}) (λ v. atom v ≡ atom w) (λ u. w) (declaration_reading limit before n (atom w)) (if_fine_unit (declaration_reading limit before n (atom w))) (λ u e. refl)
 
 -- names that are printed in a row are declared there
 pub declared_names : (ws : List (List ℕ)) → all_declared declared_by (row (map atom ws)) ≡ ws

@@ -10,7 +10,7 @@ use Rattle.lc_base.specs.declared.ids.ColId.{ColId}
 use Rattle.lc_base.specs.Limits.{argument_limit, column_limit, operation_limit, reply_limit}
 use Rattle.lc_sexp.specs.Numerals.{integer_of}
 use Rattle.lc_sexp.specs.Trees.{Tree, Trees, atom, list, none, ◌▸◌, item_count, row}
-use Rattle.lc_reading.proofs.Fine.{IfFine, weaker, cond_fine, mapped_fine, both_fine}
+use Rattle.lc_reading.proofs.Fine.{IfFine, if_fine_weaker, cond_fine, mapped_fine, both_fine}
 use Rattle.lc_reading.proofs.Words.{is-true}
 use Rattle.lc_reading.specs.Listed.{place_of, declared_by}
 use Rattle.lc_reading.specs.Naming.{is_full, name_reading}
@@ -319,7 +319,7 @@ module _ (others names : List (List ℕ)) where
       (λ p. StandFirst (names_of p.0.1) names → list (atom (codes "spec") ▸ spec_parts p) ≡ list (atom w ▸ ts))
   behind_spec w false n m ts is = tt
   behind_spec w true n m ts is =
-      weaker (λ p. StandFirst (names_of p.0.1) names → spec_parts p ≡ ts) (λ p. StandFirst (names_of p.0.1) names → list (atom (codes "spec") ▸ spec_parts p) ≡ list (atom w ▸ ts))
+      if_fine_weaker (λ p. StandFirst (names_of p.0.1) names → spec_parts p ≡ ts) (λ p. StandFirst (names_of p.0.1) names → list (atom (codes "spec") ▸ spec_parts p) ≡ list (atom w ▸ ts))
       (specification_parts_reading others n m ts) (λ p h first. ap list (both_trees _ _ _ _ (ap atom (sym (is-true w (codes "spec") is))) (h first))) (parts_stood n m ts)
 
   form_stood : (n : ℕ) (t : Tree) → IfFine (behind_reading (codes "spec") (specification_parts_reading others) n t) (λ p. StandFirst (names_of p.0.1) names → list (atom (codes "spec") ▸ spec_parts p) ≡ t)

@@ -3,7 +3,7 @@ use Rattle.std.proofs.Common.{◌≡◌, ℕ, ◌+◌, Bool, true, false, cond, 
 use Rattle.std.proofs.lemmas.Bool.{and_from, eq-eqb}
 use Rattle.lc_sexp.specs.Parts.{fits, misshapen, form_fit, is_fitting}
 use Rattle.lc_sexp.specs.Trees.{Tree, Trees, atom, list, none, ◌▸◌, item_count, item_count_of_all}
-use Rattle.lc_reading.proofs.Fine.{IfFine, anything, weaker}
+use Rattle.lc_reading.proofs.Fine.{IfFine, if_fine_unit, if_fine_weaker}
 use Rattle.lc_reading.proofs.Words.{is-true}
 use Rattle.lc_reading.specs.Parts.{begins}
 use Rattle.lc_reading.specs.Readings.{Reading, fine, wrong, both, behind_reading}
@@ -51,12 +51,12 @@ split_at word w us ts true e s = record {
 }
 split_at word w us ts false e s = nothing_own word (list (atom w ▸ us)) ts e
 
-pub split : (word : List ℕ) (ts : Trees) → Split word ts
-split word none = record { own = none; others = none; same = refl; forms = tt; stop = tt }
-split word (atom w ▸ ts) = nothing_own word (atom w) ts refl
-split word (list none ▸ ts) = nothing_own word (list none) ts refl
-split word (list (list us ▸ vs) ▸ ts) = nothing_own word (list (list us ▸ vs)) ts refl
-split word (list (atom w ▸ us) ▸ ts) = split_at word w us ts (is w word) refl (split word ts)
+pub trees_are_split : (word : List ℕ) (ts : Trees) → Split word ts
+trees_are_split word none = record { own = none; others = none; same = refl; forms = tt; stop = tt }
+trees_are_split word (atom w ▸ ts) = nothing_own word (atom w) ts refl
+trees_are_split word (list none ▸ ts) = nothing_own word (list none) ts refl
+trees_are_split word (list (list us ▸ vs) ▸ ts) = nothing_own word (list (list us ▸ vs)) ts refl
+trees_are_split word (list (atom w ▸ us) ▸ ts) = split_at word w us ts (is w word) refl (trees_are_split word ts)
 
 -- ---- what is found in a row that is split so
 
@@ -137,7 +137,7 @@ module _ {X : Type 0} (P : Trees → X → Type 0) (word : List ℕ) (read : ℕ
   HasParts t x = (ts : Trees) × (t ≡ list (atom word ▸ ts)) × P ts x
 
   parts_at : (n : ℕ) (w : List ℕ) (ts : Trees) (b : Bool) → is w word ≡ b → IfFine (read n (n + 2) ts) (P ts) → IfFine (cond b (read n (n + 2) ts) (wrong Shape n)) (HasParts (list (atom w ▸ ts)))
-  parts_at n w ts true e h = weaker (P ts) (HasParts (list (atom w ▸ ts))) (read n (n + 2) ts) (λ x p. (ts, ap (λ v. list (atom v ▸ ts)) (is-true w word e), p)) h
+  parts_at n w ts true e h = if_fine_weaker (P ts) (HasParts (list (atom w ▸ ts))) (read n (n + 2) ts) (λ x p. (ts, ap (λ v. list (atom v ▸ ts)) (is-true w word e), p)) h
   parts_at n w ts false e h = tt
 
   pub has_parts : ((n m : ℕ) (ts : Trees) → IfFine (read n m ts) (P ts)) → (n : ℕ) (t : Tree) → IfFine (behind_reading word read n t) (HasParts t)
@@ -148,4 +148,4 @@ module _ {X : Type 0} (P : Trees → X → Type 0) (word : List ℕ) (read : ℕ
 
 pub is_form : {X : Type 0} (word : List ℕ) (read : ℕ → ℕ → Trees → Reading X) (n : ℕ) (t : Tree) → IfFine (behind_reading word read n t) (λ x. IsForm word t)
 is_form {X} word read n t =
-    weaker (HasParts (λ ts x. Unit {0}) word read t) (λ x. IsForm word t) (behind_reading word read n t) (λ x h. (h.0, h.1)) (has_parts (λ ts x. Unit {0}) word read (λ n m ts. anything (read n m ts)) n t)
+    if_fine_weaker (HasParts (λ ts x. Unit {0}) word read t) (λ x. IsForm word t) (behind_reading word read n t) (λ x h. (h.0, h.1)) (has_parts (λ ts x. Unit {0}) word read (λ n m ts. if_fine_unit (read n m ts)) n t)

@@ -9,7 +9,7 @@ use Rattle.lc_sexp.specs.Numerals.{integer_of}
 use Rattle.lc_sexp.specs.Printed.{is_atom}
 use Rattle.lc_sexp.specs.Parts.{fits, beyond, fits_i64, integer_within}
 use Rattle.lc_sexp.specs.Trees.{Tree, Trees, atom, list, none, ◌▸◌, item_count}
-use Rattle.lc_reading.proofs.Fine.{IfFine, weaker, cond_fine, mapped_fine, both_fine}
+use Rattle.lc_reading.proofs.Fine.{IfFine, if_fine_weaker, cond_fine, mapped_fine, both_fine}
 use Rattle.lc_reading.proofs.Words.{is-true}
 use Rattle.lc_reading.specs.Naming.{within}
 use Rattle.lc_reading.specs.Readings.{Reading, fine, wrong}
@@ -78,7 +78,7 @@ module _ (P : List ℕ → List ℕ → Type 0) (names : Names) (by : Spelled) (
   -- ---- atoms
 
   pub number_alike : (n : ℕ) (t : Tree) → IfFine (number_reading n t) (λ z. Alike P (atom (signed_decimal z)) t)
-  number_alike n (atom w) = weaker (λ z. signed_decimal z ≡ w) (λ z. P (signed_decimal z) w) (number_reading n (atom w)) (λ z e. alike_word (signed_decimal z) w e) (number_as_stood n w)
+  number_alike n (atom w) = if_fine_weaker (λ z. signed_decimal z ≡ w) (λ z. P (signed_decimal z) w) (number_reading n (atom w)) (λ z e. alike_word (signed_decimal z) w e) (number_as_stood n w)
   number_alike n (list ts) = tt
 
   variable_alike : (bound : List (List ℕ)) (d n : ℕ) (w : List ℕ) (o free : Option ℕ) → IsLoose P bound d → bound_index bound w ≡ o → names.variable w ≡ free
@@ -235,7 +235,7 @@ module _ (P : List ℕ → List ℕ → Type 0) (names : Names) (by : Spelled) (
     only_alike q bound d n m none loose = tt
     only_alike q bound d n m (t ▸ ts) loose =
         ended_at (λ ts. IsOne d (t ▸ ts)) (m + item_count t) ts (formula_reading names bound m t)
-        (weaker (λ f. Alike P (formula_tree by d f) t) (IsOne d (t ▸ none)) (formula_reading names bound m t) (λ f a. (a, tt)) (formula_alike q bound d m t loose))
+        (if_fine_weaker (λ f. Alike P (formula_tree by d f) t) (IsOne d (t ▸ none)) (formula_reading names bound m t) (λ f a. (a, tt)) (formula_alike q bound d m t loose))
 
     both_alike : AreLoose → (bound : List (List ℕ)) (d n m : ℕ) (ts : Trees) → IsLoose P bound d → IfFine (both_reading names bound n m ts) (AreTwo d ts)
     both_alike q bound d n m none loose = tt
@@ -288,12 +288,12 @@ none_loose = (omega arith, λ k w e. absurd (cc))
 module _ (names : Names) (by : Spelled) (spelled : IsSpelledSo names by) where
   pub term_stood : (n : ℕ) (t : Tree) → IfFine (term_reading names [] n t) (λ x. term_tree by 0 x ≡ t)
   term_stood n t =
-      weaker (λ x. Alike Same (term_tree by 0 x) t) (λ x. term_tree by 0 x ≡ t) (term_reading names [] n t) (λ x a. same_trees (term_tree by 0 x) t a)
+      if_fine_weaker (λ x. Alike Same (term_tree by 0 x) t) (λ x. term_tree by 0 x ≡ t) (term_reading names [] n t) (λ x a. same_trees (term_tree by 0 x) t a)
       (term_alike Same names by (are_same names by spelled) [] 0 n t none_loose)
 
   pub formula_stood : names.allows Quantifiers ≡ false → (n : ℕ) (t : Tree) → IfFine (formula_reading names [] n t) (λ f. formula_tree by 0 f ≡ t)
   formula_stood plain n t =
-      weaker (λ f. Alike Same (formula_tree by 0 f) t) (λ f. formula_tree by 0 f ≡ t) (formula_reading names [] n t) (λ f a. same_trees (formula_tree by 0 f) t a)
+      if_fine_weaker (λ f. Alike Same (formula_tree by 0 f) t) (λ f. formula_tree by 0 f ≡ t) (formula_reading names [] n t) (λ f a. same_trees (formula_tree by 0 f) t a)
       (formula_alike Same names by (are_same names by spelled) (λ q. absurd (cc)) [] 0 n t none_loose)
 
   pub formula_shape : (n : ℕ) (t : Tree) → IfFine (formula_reading names [] n t) (λ f. Alike Readable (formula_tree by 0 f) t)

@@ -34,7 +34,7 @@ use Rattle.lc_outline_text.specs.Points.{formulas_in_reading}
 use Rattle.lc_outline_text.specs.Sides.{sides_of, auxiliaries_reading, actions_reading, invariant_reading, conditions_reading, sides_reading}
 use Rattle.lc_outline_text.specs.Sizes.{condition_count}
 use Rattle.lc_outline_print.specs.Developments.{followed}
-use Rattle.lc_outline_back.proofs.Splits.{IsForm, split, is_form, lists_behind}
+use Rattle.lc_outline_back.proofs.Splits.{IsForm, trees_are_split, is_form, lists_behind}
 use Rattle.lc_outline_back.proofs.Whole.{File, IsFormed, forms_of_file, items, object_at, arrays_at, auxiliaries_at, actions_at, invariant_at, idle_at, named_reading, words_reading, acting_reading, holding_reading, bodies_read, object_by, parts_reading}
 
 -- ---- the parts of what is fine
@@ -151,12 +151,12 @@ pub record HasForms (ts : Trees) : Type 0 where
 object_formed : (d : Declarations) (n : ℕ) (t name : Tree) (rest : Trees) → HasSections d (sections_of (t ▸ object_form name rest ▸ none)) n → HasForms (t ▸ object_form name rest ▸ none)
 object_formed d n t name rest h =
     let k = 0 + item_count t + 2 + item_count name in
-    let arrays = split (codes "array") rest in
+    let arrays = trees_are_split (codes "array") rest in
     let behind_arrays : behind_lists (codes "array") k rest ≡ items (k + item_count_of_all arrays.own) arrays.others =
     ap (behind_lists (codes "array") k) arrays.same ∙ lists_behind (codes "array") k arrays.own arrays.others arrays.forms arrays.stop in
     let aux = auxiliaries_found d n (k + item_count_of_all arrays.own) arrays.others h.columns (subst (λ (i : Items). first_reading (auxiliaries_reading d) n i.number i.trees ≡ fine h.columns) behind_arrays h.auxiliaries) in
     let m = k + item_count_of_all arrays.own + item_count aux.first in
-    let actions = split (codes "action") aux.others in
+    let actions = trees_are_split (codes "action") aux.others in
     let behind_actions : behind_forms (codes "action") (behind_first (behind_lists (codes "array") k rest)) ≡ items (m + item_count_of_all actions.own) actions.others =
     ap (λ (i : Items). behind_forms (codes "action") (behind_first i)) (behind_arrays ∙ ap (items (k + item_count_of_all arrays.own)) aux.same)
     ∙ ap (behind_lists (codes "action") m) actions.same ∙ lists_behind (codes "action") m actions.own actions.others actions.forms actions.stop in

@@ -6,7 +6,7 @@ use Rattle.lc_sexp.specs.Numerals.{integer_of}
 use Rattle.lc_sexp.specs.Parts.{fits, beyond, form_fit, integer_within}
 use Rattle.lc_sexp.specs.TreeCode.{tree_count}
 use Rattle.lc_sexp.specs.Trees.{Tree, Trees, atom, list, none, ◌▸◌, item_count}
-use Rattle.lc_reading.proofs.Holding.{Holds, anything, mapped_holds, both_holds, three_holds, limited_holds, if_holds, and_true, weaker}
+use Rattle.lc_reading.proofs.Holding.{Holds, holds_unit, mapped_holds, both_holds, three_holds, limited_holds, if_holds, and_true, holds_weaker}
 use Rattle.lc_reading.specs.Listed.{declared_by, names_among}
 use Rattle.lc_reading.specs.Naming.{is_full, name_reading}
 use Rattle.lc_reading.specs.Readings.{Reading, fine, wrong}
@@ -37,7 +37,7 @@ use Rattle.lc_outline_text.specs.Declarations.{branches_in, ways_in}
 row_counted : {X : Type 0} (read : List (List ℕ) → ℕ → Tree → Reading X) (declares : Tree → List (List ℕ)) (before : List (List ℕ)) (m : ℕ) (ts : Trees) → Holds (λ xs. length xs ≡ tree_count ts) (declared_reading read declares before m ts)
 row_counted read declares before m none = refl
 row_counted read declares before m (t ▸ ts) =
-    both_holds (λ x. Unit {0}) (λ xs. length xs ≡ tree_count ts) (λ xs. length xs ≡ tree_count (t ▸ ts)) (λ x xs. x ∷ xs) (read before m t) _ (anything (read before m t))
+    both_holds (λ x. Unit {0}) (λ xs. length xs ≡ tree_count ts) (λ xs. length xs ≡ tree_count (t ▸ ts)) (λ x xs. x ∷ xs) (read before m t) _ (holds_unit (read before m t))
     (row_counted read declares (before ++ declares t) (m + item_count t) ts) (λ x xs h g. ap suc g)
 
 -- each of a row
@@ -52,10 +52,10 @@ names_read : (before : List (List ℕ)) (m : ℕ) (ts : Trees) → Holds (λ ws.
 names_read before m none = refl
 names_read before m (list us ▸ ts) =
     both_holds (λ w. ⊥) (λ ws. Unit {0}) (λ ws. length ws ≡ length (names_among (list us ▸ ts))) (λ x xs. x ∷ xs) (name_reading (Some (1 + argument_limit)) before m (list us)) _ tt
-    (anything (declared_reading (name_reading (Some (1 + argument_limit))) declared_by (before ++ []) (m + item_count (list us)) ts)) (λ w ws h g. absurd h)
+    (holds_unit (declared_reading (name_reading (Some (1 + argument_limit))) declared_by (before ++ []) (m + item_count (list us)) ts)) (λ w ws h g. absurd h)
 names_read before m (atom w ▸ ts) =
     both_holds (λ w. Unit {0}) (λ ws. length ws ≡ length (names_among ts)) (λ ws. length ws ≡ length (names_among (atom w ▸ ts))) (λ x xs. x ∷ xs) (name_reading (Some (1 + argument_limit)) before m (atom w)) _
-    (anything (name_reading (Some (1 + argument_limit)) before m (atom w))) (names_read (before ++ declared_by (atom w)) (m + item_count (atom w)) ts) (λ w ws h g. ap suc g)
+    (holds_unit (name_reading (Some (1 + argument_limit)) before m (atom w))) (names_read (before ++ declared_by (atom w)) (m + item_count (atom w)) ts) (λ w ws h g. ap suc g)
 
 arguments_read : (n : ℕ) (t : Tree) → Holds (λ ws. length ws ≡ length (names_among (items_within t))) (arguments_reading n t)
 arguments_read n (atom w) = tt
@@ -95,7 +95,7 @@ operation_parts_said columns before n m (t ▸ u ▸ v ▸ b ▸ bs) =
     let k = m + item_count t in
     both_holds (IsHead u v) (AreWaysOf (b ▸ bs)) (λ p. IsSaid (t ▸ u ▸ v ▸ b ▸ bs) (the_operation p)) pair (signature_reading before m t u v) _
     (three_holds (λ w. Unit {0}) (λ ws. length ws ≡ length (names_among (items_within u))) (λ k. natural (number_of v) ≡ Some k) (IsHead u v) triple (name_reading None before m t) (arguments_reading k u) (count_reading (k + item_count u) v)
-    (anything (name_reading None before m t)) (arguments_read k u) (replies_read (k + item_count u) v) (λ w ws j a h g. (h, g)))
+    (holds_unit (name_reading None before m t)) (arguments_read k u) (replies_read (k + item_count u) v) (λ w ws j a h g. (h, g)))
     (ways_said columns (variables_in u) (count_in v) (k + item_count u + item_count v) b bs) (λ p xs h g. record { arguments = h.0; replies = h.1; ways = g })
 
 abbrev IsOperationSaid : ℕ → Tree → Operation → Type 0
@@ -113,7 +113,7 @@ pub record IsSpecificationSaid (us : Trees) (q : Specification) : Type 0 where
 
 columns_said : (n : ℕ) (t : Tree) → Holds (λ cs. length cs ≡ tree_count (parts_in (codes "abstract") t)) (columns_reading n t)
 columns_said n t =
-    weaker _ (λ cs. length cs ≡ tree_count (parts_in (codes "abstract") t)) (columns_reading n t) (λ cs h. h.1)
+    holds_weaker _ (λ cs. length cs ≡ tree_count (parts_in (codes "abstract") t)) (columns_reading n t) (λ cs h. h.1)
     (form_holds (λ ts cs. length cs ≡ tree_count ts) (codes "abstract") (λ n. declared_reading column_reading first_name []) n t (λ n m ts. row_counted column_reading first_name [] m ts))
 
 specification_parts_said : (others : List (List ℕ)) (n m : ℕ) (us : Trees) → Holds (λ p. IsSpecificationSaid us (the_specification p)) (specification_parts_reading others n m us)
@@ -125,7 +125,7 @@ specification_parts_said others n m (t ▸ u ▸ o ▸ os) =
     let k = m + item_count t in
     three_holds (λ w. Unit {0}) (λ cs. length cs ≡ tree_count (parts_in (codes "abstract") u)) (Each IsOperationSaid 0 (o ▸ os)) (λ p. IsSpecificationSaid (t ▸ u ▸ o ▸ os) (the_specification p)) triple
     (name_reading None [] m t) (columns_reading k u) (operations_reading columns (k + item_count u) (o ▸ os))
-    (anything (name_reading None [] m t)) (columns_said k u) (each_declared IsOperationSaid (operation_reading columns) second_name (operation_said columns) [] 0 (k + item_count u) (o ▸ os))
+    (holds_unit (name_reading None [] m t)) (columns_said k u) (each_declared IsOperationSaid (operation_reading columns) second_name (operation_said columns) [] 0 (k + item_count u) (o ▸ os))
     (λ w cs qs a h g. record { columns = h; operations = g })
 
 pub specification_said : (others : List (List ℕ)) (n : ℕ) (t : Tree) → Holds (IsSpecificationSaid (parts_in (codes "spec") t)) (specification_reading others n t)
@@ -155,33 +155,33 @@ AreSame [] (q ∷ qs) = ⊥
 AreSame (s ∷ ss) [] = ⊥
 AreSame (s ∷ ss) (q ∷ qs) = ((length s.arguments ≡ length q.arguments) × (s.replies ≡ q.replies) × (has_some q.branches ≡ true)) × AreSame ss qs
 
-pub same : (d : Declared) (i : ℕ) (ts : Trees) (ss : List Signature) (qs : List Operation) → Each (IsOperation d) i ts ss → Each IsOperationSaid i ts qs → AreSame ss qs
-same d i none [] [] h g = tt
-same d i none [] (q ∷ qs) h g = absurd g
-same d i none (s ∷ ss) qs h g = absurd h
-same d i (t ▸ ts) [] qs h g = absurd h
-same d i (t ▸ ts) (s ∷ ss) [] h g = absurd g
-same d i (t ▸ ts) (s ∷ ss) (q ∷ qs) h g =
+pub signatures_are_same : (d : Declared) (i : ℕ) (ts : Trees) (ss : List Signature) (qs : List Operation) → Each (IsOperation d) i ts ss → Each IsOperationSaid i ts qs → AreSame ss qs
+signatures_are_same d i none [] [] h g = tt
+signatures_are_same d i none [] (q ∷ qs) h g = absurd g
+signatures_are_same d i none (s ∷ ss) qs h g = absurd h
+signatures_are_same d i (t ▸ ts) [] qs h g = absurd h
+signatures_are_same d i (t ▸ ts) (s ∷ ss) [] h g = absurd g
+signatures_are_same d i (t ▸ ts) (s ∷ ss) (q ∷ qs) h g =
     let us = parts_in (codes "op") t in
     let c : IsSignature d i us s = h.0.1 in
-    ((c.arguments ∙ sym g.0.1.arguments, same_replies (later (later us)) s.replies q.replies c.replies c.at_most g.0.1.replies, g.0.1.ways.some), same d (i + 1) ts ss qs h.1 g.1)
+    ((c.arguments ∙ sym g.0.1.arguments, same_replies (later (later us)) s.replies q.replies c.replies c.at_most g.0.1.replies, g.0.1.ways.some), signatures_are_same d (i + 1) ts ss qs h.1 g.1)
 
-pub matched : (e : ℕ) (ss : List Signature) (bs : List (BodyText Point)) (qs : List Operation) → length ss ≤ length bs → AreSame ss qs → are_matched (operations_from e ss bs) qs ≡ true
-matched e [] bs [] room h = refl
-matched e [] bs (q ∷ qs) room h = absurd h
-matched e (s ∷ ss) bs [] room h = absurd h
-matched e (s ∷ ss) [] (q ∷ qs) room h = absurd (omega (arith, room))
-matched e (s ∷ ss) (b ∷ bs) (q ∷ qs) room h =
+pub operations_are_matched : (e : ℕ) (ss : List Signature) (bs : List (BodyText Point)) (qs : List Operation) → length ss ≤ length bs → AreSame ss qs → are_matched (operations_from e ss bs) qs ≡ true
+operations_are_matched e [] bs [] room h = refl
+operations_are_matched e [] bs (q ∷ qs) room h = absurd h
+operations_are_matched e (s ∷ ss) bs [] room h = absurd h
+operations_are_matched e (s ∷ ss) [] (q ∷ qs) room h = absurd (omega (arith, room))
+operations_are_matched e (s ∷ ss) (b ∷ bs) (q ∷ qs) room h =
     and_true _ (are_matched (operations_from (e + length b.points) ss bs) qs)
     (and_true (length s.arguments == length q.arguments) ((s.replies == q.replies) && has_some q.branches) (same_number (length s.arguments) (length q.arguments) h.0.0)
     (and_true (s.replies == q.replies) (has_some q.branches) (same_number s.replies q.replies h.0.1) h.0.2))
-    (matched (e + length b.points) ss bs qs (omega (arith, room)) h.1)
+    (operations_are_matched (e + length b.points) ss bs qs (omega (arith, room)) h.1)
 
-pub branched : (ss : List Signature) (qs : List Operation) (k : ℕ) → AreSame ss qs → k < length ss → has_some (op_branches qs k) ≡ true
-branched [] qs k h room = absurd (omega (arith, room))
-branched (s ∷ ss) [] k h room = absurd h
-branched (s ∷ ss) (q ∷ qs) zero h room = h.0.2
-branched (s ∷ ss) (q ∷ qs) (suc k) h room = branched ss qs k h.1 (omega (arith, room))
+pub has_some_branches : (ss : List Signature) (qs : List Operation) (k : ℕ) → AreSame ss qs → k < length ss → has_some (op_branches qs k) ≡ true
+has_some_branches [] qs k h room = absurd (omega (arith, room))
+has_some_branches (s ∷ ss) [] k h room = absurd h
+has_some_branches (s ∷ ss) (q ∷ qs) zero h room = h.0.2
+has_some_branches (s ∷ ss) (q ∷ qs) (suc k) h room = has_some_branches ss qs k h.1 (omega (arith, room))
 
 -- ---- how operations go
 

@@ -7,7 +7,7 @@ use Rattle.lc_base.specs.Limits.{condition_limit}
 use Rattle.lc_sexp.specs.Parts.{fits, form_fit}
 use Rattle.lc_sexp.specs.TreeCode.{tree_count}
 use Rattle.lc_sexp.specs.Trees.{Tree, Trees, none, ◌▸◌, item_count}
-use Rattle.lc_reading.proofs.Holding.{Holds, held, anything, both_holds, ended_holds, limited_holds, and_true, weaker, and_holds}
+use Rattle.lc_reading.proofs.Holding.{Holds, holds_of_fine, holds_unit, both_holds, ended_holds, limited_holds, and_true, holds_weaker, and_holds}
 use Rattle.lc_reading.specs.Readings.{Reading, fine, flawed, limited}
 use Rattle.lc_text.specs.Terms.{pair}
 use Rattle.lc_object.specs.Syntax.{Point}
@@ -32,9 +32,9 @@ use Rattle.lc_seq.specs.TextView.{specification_of}
 use Rattle.lc_seq.specs.declared.specification.TextSpec.{TextSpec}
 use Rattle.lc_spec_text.proofs.Resolved.{specification_resolved}
 use Rattle.lc_spec_text.specs.Specifications as Q
-use Rattle.lc_outline_text.proofs.Agreed.{IsSpecificationSaid, specification_said, AreSame, same, matched, branched, AllGo, all_go, go_counted, goes_at}
-use Rattle.lc_outline_text.proofs.Fitting.{Fits, left, same_number, actions_resolved, outlines_scoped, edges_resolved}
-use Rattle.lc_outline_text.proofs.ObjectOf.{IsObjectOf, objects, object_is_one}
+use Rattle.lc_outline_text.proofs.Agreed.{IsSpecificationSaid, specification_said, AreSame, signatures_are_same, operations_are_matched, has_some_branches, AllGo, all_go, go_counted, goes_at}
+use Rattle.lc_outline_text.proofs.Fitting.{Fits, and_true_left, same_number, actions_resolved, outlines_scoped, edges_resolved}
+use Rattle.lc_outline_text.proofs.ObjectOf.{IsObjectOf, object_reading_holds, object_is_one}
 use Rattle.lc_outline_text.proofs.Outlined.{AreBodiesOf, bodies_outlined, all_points, each_point, code_points, outline_points}
 use Rattle.lc_outline_text.proofs.Own.{own_there}
 use Rattle.lc_outline_text.proofs.SidesHold.{AreSides, sides_hold}
@@ -75,7 +75,7 @@ specification_of_text t u ts =
     (λ text q h g. record {
       fit = specification_fits t u ts text h.0 h.1;
       columns = h.1.abstracts ∙ sym g.columns;
-      operations = same d 0 (later (later us)) text.signatures q.operations h.1.operations.1 g.operations;
+      operations = signatures_are_same d 0 (later (later us)) text.signatures q.operations h.1.operations.1 g.operations;
       goes = subst (λ vs. AllGo (some_forms_in (codes "op") vs) q.operations) (sym (operations_there t u ts h.0)) (all_go (later (later us)) q.operations g.operations);
     })
 
@@ -93,16 +93,16 @@ outlines_read : (s : Sections) (n : ℕ) → Holds (HaveOutlines s) (object_read
 outlines_read s n =
     let d = declarations_in s in
     both_holds (λ (x : O.Tables × Sides). AreSides d s x.1) (AreBodiesOf d 0) (HaveOutlines s) pair (tables_reading d s n) (bodies_reading d n s.bodies.number s.bodies.trees)
-    (both_holds (λ x. Unit {0}) (AreSides d s) (λ (x : O.Tables × Sides). AreSides d s x.1) pair (O.tables_reading d.declared s n) (sides_reading d s n) (anything (O.tables_reading d.declared s n)) (sides_hold d s n) (λ a b h g. g))
+    (both_holds (λ x. Unit {0}) (AreSides d s) (λ (x : O.Tables × Sides). AreSides d s x.1) pair (O.tables_reading d.declared s n) (sides_reading d s n) (holds_unit (O.tables_reading d.declared s n)) (sides_hold d s n) (λ a b h g. g))
     (bodies_outlined d n s.bodies.number s.bodies.trees) (λ a b h g. (h, g))
 
 pub object_of_text : (s : Sections) (n : ℕ) → Holds (ObjectHolds s) (object_reading (declarations_in s) s n)
 object_of_text s n =
     let d = declarations_in s in
     let r = object_reading d s n in
-    weaker (λ p. IsObjectOf d s n p × HaveOutlines s p) (ObjectHolds s) r
-    (λ p h. record { fit = held (ObjectFits d.declared s) (O.object_reading d.declared s code_alone n) (p.0.0, map code_of p.1) (object_holds d.declared s n) h.0; sides = h.1.0; bodies = h.1.1 })
-    (and_holds (IsObjectOf d s n) (HaveOutlines s) r (objects d s n) (outlines_read s n))
+    holds_weaker (λ p. IsObjectOf d s n p × HaveOutlines s p) (ObjectHolds s) r
+    (λ p h. record { fit = holds_of_fine (ObjectFits d.declared s) (O.object_reading d.declared s code_alone n) (p.0.0, map code_of p.1) (object_holds d.declared s n) h.0; sides = h.1.0; bodies = h.1.1 })
+    (and_holds (IsObjectOf d s n) (HaveOutlines s) r (object_reading_holds d s n) (outlines_read s n))
 
 -- ---- counts
 
@@ -151,11 +151,11 @@ fits_declared s p o h g =
       outlines = outline_points o.1;
       known = each_point d 0 o.1 g.bodies;
       operations = code.operations_fit;
-      matched = matched 0 p.0.signatures bs p.1.operations (subst (λ n. n ≤ length bs) (sym counted) (enough_bodies s bs g.fit.1)) h.operations;
+      matched = operations_are_matched 0 p.0.signatures bs p.1.operations (subst (λ n. n ≤ length bs) (sym counted) (enough_bodies s bs g.fit.1)) h.operations;
       counted = go_counted d.operations p.1.operations h.goes ∙ sym (length-map d.operations first_text);
       goes = λ k few. goes_at d.operations p.1.operations k h.goes (omega (arith, few, length-map d.operations first_text));
       own = λ k few. own_there s p.0 (o.0.0, bs) h.fit g.fit k few;
-      branched = λ k few. branched p.0.signatures p.1.operations k h.operations (subst (λ n. k < n) (sym counted) few);
+      branched = λ k few. has_some_branches p.0.signatures p.1.operations k h.operations (subst (λ n. k < n) (sym counted) few);
       columns = all_columns s p o h g;
       auxiliaries = first_auxiliary s p o h g;
       actions = g.sides.actions;
@@ -186,20 +186,20 @@ seconds_hold s n (t ▸ ts) = ended_holds (ObjectHolds s) (n + item_count t) ts 
 sound : (ts : Trees) → Holds IsSound (forms_reading (declarations_of ts) (sections_of ts) 0 ts)
 sound none = tt
 sound (t ▸ none) =
-    both_holds (λ p. Unit {0}) (λ o. ⊥) IsSound development_of (specification_reading (declarations_of (t ▸ none)) 0 t) _ (anything (specification_reading (declarations_of (t ▸ none)) 0 t)) tt (λ p o h g. absurd g)
+    both_holds (λ p. Unit {0}) (λ o. ⊥) IsSound development_of (specification_reading (declarations_of (t ▸ none)) 0 t) _ (holds_unit (specification_reading (declarations_of (t ▸ none)) 0 t)) tt (λ p o h g. absurd g)
 sound (t ▸ u ▸ ts) =
     let s = sections_of (t ▸ u ▸ ts) in
     both_holds (SpecificationHolds s) (ObjectHolds s) IsSound development_of (specification_reading (declarations_of (t ▸ u ▸ ts)) 0 t) (second_form_reading (declarations_in s) s (0 + item_count t) (u ▸ ts))
     (specification_of_text t u ts) (seconds_hold s (0 + item_count t) (u ▸ ts)) (resolved_of s)
 
 pub development_is_resolved : (ts : Trees) (D : Development) → forms_reading (declarations_of ts) (sections_of ts) 0 ts ≡ fine D → list_all (operation_is_resolved (length D.specification.columns)) D.specification.operations ≡ true → is_resolved D ≡ true
-development_is_resolved ts D e spec = held IsSound (forms_reading (declarations_of ts) (sections_of ts) 0 ts) D (sound ts) e spec (object_is_one ts D e)
+development_is_resolved ts D e spec = holds_of_fine IsSound (forms_reading (declarations_of ts) (sections_of ts) 0 ts) D (sound ts) e spec (object_is_one ts D e)
 
 -- a specification is, by its type
 pub text_is_resolved : (q : TextSpec) → list_all (operation_is_resolved (length (specification_of q).columns)) (specification_of q).operations ≡ true
 text_is_resolved q =
     let operations = operations_of q.operations.items in
-    subst (λ n. list_all (operation_is_resolved n) operations ≡ true) (sym (length-map q.columns.items column_of)) (left (list_all (operation_is_resolved (length q.columns.items)) operations) (names_differ operations) q.is_resolved)
+    subst (λ n. list_all (operation_is_resolved n) operations ≡ true) (sym (length-map q.columns.items column_of)) (and_true_left (list_all (operation_is_resolved (length q.columns.items)) operations) (names_differ operations) q.is_resolved)
 
 -- ---- what a file says
 
@@ -212,8 +212,8 @@ specified d s n (t ▸ ts) =
     let P = λ (q : Specification). list_all (operation_is_resolved (length q.columns)) q.operations ≡ true in
     both_holds (λ (p : O.SpecificationText × Specification). P p.1) (λ o. Unit {0}) IsSpecified development_of (specification_reading d n t) (second_form_reading d s (n + item_count t) ts)
     (both_holds (λ (p : O.SpecificationText). Unit {0}) P (λ (p : O.SpecificationText × Specification). P p.1) pair (O.specification_reading d.declared n t) (Q.specification_reading d.declared.columns n t)
-    (anything (O.specification_reading d.declared n t)) (specification_resolved d.declared.columns n t) (λ p q u h. h))
-    (anything (second_form_reading d s (n + item_count t) ts)) (λ p o h u. h)
+    (holds_unit (O.specification_reading d.declared n t)) (specification_resolved d.declared.columns n t) (λ p q u h. h))
+    (holds_unit (second_form_reading d s (n + item_count t) ts)) (λ p o h u. h)
 
 reads_itself : {X : Type 0} (r : Reading X) → Holds (λ x. r ≡ fine x) r
 reads_itself (fine x) = refl
@@ -222,11 +222,11 @@ reads_itself (flawed f) = tt
 -- the development that forms say is resolved
 pub forms_resolved : (ts : Trees) (D : Development) → forms_reading (declarations_of ts) (sections_of ts) 0 ts ≡ fine D → is_resolved D ≡ true
 forms_resolved ts D read =
-    development_is_resolved ts D read (held IsSpecified (forms_reading (declarations_of ts) (sections_of ts) 0 ts) D (specified (declarations_of ts) (sections_of ts) 0 ts) read)
+    development_is_resolved ts D read (holds_of_fine IsSpecified (forms_reading (declarations_of ts) (sections_of ts) 0 ts) D (specified (declarations_of ts) (sections_of ts) 0 ts) read)
 
 -- the same for a file
 pub says_resolved : (ts : Trees) (D : Development) → file_reading ts ≡ fine D → is_resolved D ≡ true
 says_resolved ts D e =
     let forms = forms_reading (declarations_of ts) (sections_of ts) 0 ts in
     let within = nat_lt condition_limit (condition_count (declarations_of ts) (sections_of ts)) in
-    forms_resolved ts D (held (λ (E : Development). forms ≡ fine E) (limited within 0 forms) D (limited_holds (λ (E : Development). forms ≡ fine E) within 0 forms (reads_itself forms)) e)
+    forms_resolved ts D (holds_of_fine (λ (E : Development). forms ≡ fine E) (limited within 0 forms) D (limited_holds (λ (E : Development). forms ≡ fine E) within 0 forms (reads_itself forms)) e)

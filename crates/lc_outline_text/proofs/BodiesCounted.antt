@@ -35,19 +35,19 @@ ArePlaced d i p [] none [] = Unit {0}
 ArePlaced d i p (b ∷ bs) (t ▸ ts) (x ∷ xs) = IsPlaced d b i p (parts_in (codes "body") t) x × ArePlaced d (i + 1) (p + length (points_in (parts_in (codes "body") t))) bs ts xs
 ArePlaced d i p _ _ _ = ⊥
 
-pub placed : (d : Declarations) (names : List (List ℕ)) (calls : List Call) (i p m : ℕ) (ts : Trees) (xs : List (BodyText (Point × Outline))) → Each (IsDue d) i ts xs → m ≤ tree_count ts
+pub bodies_are_placed : (d : Declarations) (names : List (List ℕ)) (calls : List Call) (i p m : ℕ) (ts : Trees) (xs : List (BodyText (Point × Outline))) → Each (IsDue d) i ts xs → m ≤ tree_count ts
     → ((j : ℕ) → slice_get d.declared.bodies (i + j) ≡ slice_get (bodies_from names calls i p m ts) j) → ArePlaced d i p (bodies_from names calls i p m ts) ts xs
-placed d names calls i p zero none [] h few agree = tt
-placed d names calls i p zero none (x ∷ xs) h few agree = absurd h
-placed d names calls i p zero (t ▸ ts) [] h few agree = absurd h
-placed d names calls i p zero (t ▸ ts) (x ∷ xs) h few agree =
+bodies_are_placed d names calls i p zero none [] h few agree = tt
+bodies_are_placed d names calls i p zero none (x ∷ xs) h few agree = absurd h
+bodies_are_placed d names calls i p zero (t ▸ ts) [] h few agree = absurd h
+bodies_are_placed d names calls i p zero (t ▸ ts) (x ∷ xs) h few agree =
     let (b, e, body) = h.0 in
     let here : i + 0 ≡ i = omega arith in
     let at : slice_get d.declared.bodies (i + 0) ≡ Some b = ap (slice_get d.declared.bodies) here ∙ e in
     let past = agree 0 in absurd (cc)
-placed d names calls i p (suc m) none xs h few agree = absurd (omega (arith, few))
-placed d names calls i p (suc m) (t ▸ ts) [] h few agree = absurd h
-placed d names calls i p (suc m) (t ▸ ts) (x ∷ xs) h few agree =
+bodies_are_placed d names calls i p (suc m) none xs h few agree = absurd (omega (arith, few))
+bodies_are_placed d names calls i p (suc m) (t ▸ ts) [] h few agree = absurd h
+bodies_are_placed d names calls i p (suc m) (t ▸ ts) (x ∷ xs) h few agree =
     let us = parts_in (codes "body") t in
     let own = body_of names calls i p us in
     let (b, e, body) = h.0 in
@@ -56,7 +56,7 @@ placed d names calls i p (suc m) (t ▸ ts) (x ∷ xs) h few agree =
     let due : slice_get d.declared.bodies (i + 0) ≡ Some own = agree 0 in
     let same : b ≡ own = cc in (
       record { first = refl; labels = refl; body = subst (λ c. IsBodyOf d c i us x) same body },
-      placed d names calls (i + 1) (p + length (points_in us)) m ts xs h.1 (omega (arith, few)) (λ j. (let next : i + 1 + j ≡ i + suc j = omega arith in ap (slice_get d.declared.bodies) next) ∙ agree (suc j)),
+      bodies_are_placed d names calls (i + 1) (p + length (points_in us)) m ts xs h.1 (omega (arith, few)) (λ j. (let next : i + 1 + j ≡ i + suc j = omega arith in ap (slice_get d.declared.bodies) next) ∙ agree (suc j)),
     )
 
 -- ---- the points of a body

@@ -7,7 +7,7 @@ use Rattle.lc_base.specs.Limits.{column_limit, operation_limit}
 use Rattle.lc_sexp.specs.Parts.{fits, misshapen, form_fit}
 use Rattle.lc_sexp.specs.TreeCode.{tree_count}
 use Rattle.lc_sexp.specs.Trees.{Tree, Trees, atom, list, none, ◌▸◌, item_count}
-use Rattle.lc_reading.proofs.Holding.{Holds, anything, mapped_holds, both_holds, three_holds, ended_holds, limited_holds, if_holds, weaker}
+use Rattle.lc_reading.proofs.Holding.{Holds, holds_unit, mapped_holds, both_holds, three_holds, ended_holds, limited_holds, if_holds, holds_weaker}
 use Rattle.lc_reading.specs.Listed.{place_of}
 use Rattle.lc_reading.specs.Naming.{is_full, name_reading}
 use Rattle.lc_reading.specs.Readings.{fine, wrong, listed_reading}
@@ -59,7 +59,7 @@ module _ (columns : Columns) (all : List (List ℕ)) (first : Leads columns.own 
       let P : (ℕ × Term) × Term → Type 0 = λ p. IsColumn all (text_in t) p.0.0 in
       ended_holds P (m + item_count t + item_count u + item_count v) ts _
       (three_holds (IsColumn all (text_in t)) (λ x. Unit {0}) (λ x. Unit {0}) P triple (written_reading columns m t) (term_reading names [] (m + item_count t) u) (term_reading names [] (m + item_count t + item_count u) v)
-      (stored_said m t) (anything (term_reading names [] (m + item_count t) u)) (anything (term_reading names [] (m + item_count t + item_count u) v)) (λ k x y h u v. h))
+      (stored_said m t) (holds_unit (term_reading names [] (m + item_count t) u)) (holds_unit (term_reading names [] (m + item_count t + item_count u) v)) (λ k x y h u v. h))
 
   update_said : (names : Names) (n : ℕ) (t : Tree) → Holds (λ u. IsColumn all (first_text (items_within t)) u.column) (update_reading columns names n t)
   update_said names n (atom w) = tt
@@ -90,7 +90,7 @@ module _ (columns : Columns) (all : List (List ℕ)) (first : Leads columns.own 
       ended_holds P (m + item_count t + item_count u + item_count v) ts _
       (three_holds (λ f. Unit {0}) (λ us. columns_stored all (items_within u) ≡ columns_of us) (λ rs. length rs ≡ tree_count (items_within v)) P triple
       (formula_reading names [] m t) (updates_reading columns names (m + item_count t) u) (replies_reading names count (m + item_count t + item_count u) v)
-      (anything (formula_reading names [] m t)) (updates_said names (m + item_count t) u) (replies_said names count (m + item_count t + item_count u) v) (λ f us rs a h g. (h, g)))
+      (holds_unit (formula_reading names [] m t)) (updates_said names (m + item_count t) u) (replies_said names count (m + item_count t + item_count u) v) (λ f us rs a h g. (h, g)))
 
   branch_said : (names : Names) (count : Option ℕ) (n : ℕ) (t : Tree) → Holds (IsBranchOf all (parts_in (codes "branch") t)) (branch_reading columns names count n t)
   branch_said names count n t =
@@ -111,7 +111,7 @@ module _ (columns : Columns) (all : List (List ℕ)) (first : Leads columns.own 
         let names = branch_names columns.own (variables ++ parameters_in b) in
         let k = m + item_count a + item_count b in
         both_holds (λ x. Unit {0}) (λ q. IsBranchOf all parts (the_branch q)) (λ p. IsBranchOf all parts (the_choice p)) pair (label_reading variables before m a b) (branch_parts_reading columns names count n k parts)
-        (anything (label_reading variables before m a b)) (branch_parts_said names count n k parts) (λ p q u h. h)
+        (holds_unit (label_reading variables before m a b)) (branch_parts_said names count n k parts) (λ p q u h. h)
 
     choice_said : (before : List (List ℕ)) (n : ℕ) (t : Tree) → Holds (IsForm (codes "choice") (IsChoiceOf all) t) (choice_reading columns variables count before n t)
     choice_said before n t =
@@ -145,7 +145,7 @@ module _ (columns : Columns) (all : List (List ℕ)) (first : Leads columns.own 
     by_test : (c : Bool) → begin_with_choice ts ≡ c
         → Holds (AreWaysSaid all ts) (cond c (declared_reading (choice_reading columns variables count) second_name [] m ts) (each_reading (branch_reading columns (branch_names columns.own variables) count) m ts))
     by_test true e =
-        weaker (Along (IsForm (codes "choice") (IsChoiceOf all)) ts) (AreWaysSaid all ts) (declared_reading (choice_reading columns variables count) second_name [] m ts)
+        holds_weaker (Along (IsForm (codes "choice") (IsChoiceOf all)) ts) (AreWaysSaid all ts) (declared_reading (choice_reading columns variables count) second_name [] m ts)
         (λ bs h. record {
           branches = λ no. absurd (let other : true ≡ false = sym e ∙ no in cc);
           choices = λ j f b at there. both_there (IsChoiceOf all) (forms_in (codes "choice") ts) bs j f b (forms_alike (codes "choice") (IsChoiceOf all) ts bs h) at there;
@@ -153,7 +153,7 @@ module _ (columns : Columns) (all : List (List ℕ)) (first : Leads columns.own 
         (declared_along (IsForm (codes "choice") (IsChoiceOf all)) (choice_reading columns variables count) second_name (choice_said columns all first variables count) [] m ts)
     by_test false e =
         let read = branch_reading columns (branch_names columns.own variables) count in
-        weaker (AreBranchesOf all ts) (AreWaysSaid all ts) (each_reading read m ts)
+        holds_weaker (AreBranchesOf all ts) (AreWaysSaid all ts) (each_reading read m ts)
         (λ bs h. record {
           branches = λ none. h;
           choices = λ j f b at there. absurd (let other : None ≡ Some f = sym (ap (λ fs. slice_get fs j) (no_choices ts e)) ∙ at in cc);
@@ -168,7 +168,7 @@ module _ (columns : Columns) (all : List (List ℕ)) (first : Leads columns.own 
   operation_parts_said before n m (t ▸ u ▸ v ▸ b ▸ bs) =
       let r = ways_reading columns (variables_in u) (count_in v) (m + item_count t + item_count u + item_count v) (b ▸ bs) in
       both_holds (λ x. Unit {0}) (AreWaysSaid all (b ▸ bs)) (λ p. IsOperationOf all (t ▸ u ▸ v ▸ b ▸ bs) (the_operation p)) pair (signature_reading before m t u v) r
-      (anything (signature_reading before m t u v)) (ways_said (variables_in u) (count_in v) (m + item_count t + item_count u + item_count v) (b ▸ bs)) (λ p xs h g. g)
+      (holds_unit (signature_reading before m t u v)) (ways_said (variables_in u) (count_in v) (m + item_count t + item_count u + item_count v) (b ▸ bs)) (λ p xs h g. g)
 
   operation_said : (before : List (List ℕ)) (n : ℕ) (t : Tree) → Holds (IsForm (codes "op") (IsOperationOf all) t) (operation_reading columns before n t)
   operation_said before n t =
@@ -188,9 +188,9 @@ column_named_first before n (list (list us ▸ u ▸ v ▸ ts)) =
     let m = n + 1 + item_count (list us) in
     ended_holds P (m + item_count u + item_count v) ts _
     (three_holds (λ w. ⊥) (λ x. Unit {0}) (λ x. Unit {0}) P triple (name_reading None before (n + 1) (list us)) (number_reading m u) (number_reading (m + item_count u) v)
-    tt (anything (number_reading m u)) (anything (number_reading (m + item_count u) v)) (λ w x y h a b. absurd h))
+    tt (holds_unit (number_reading m u)) (holds_unit (number_reading (m + item_count u) v)) (λ w x y h a b. absurd h))
 column_named_first before n (list (atom w ▸ ts)) =
-    let r = column_parts_reading before n (n + 1) (atom w ▸ ts) in weaker (λ p. Unit {0}) (λ p. first_name (list (atom w ▸ ts)) ≡ w ∷ []) r (λ p u. refl) (anything r)
+    let r = column_parts_reading before n (n + 1) (atom w ▸ ts) in holds_weaker (λ p. Unit {0}) (λ p. first_name (list (atom w ▸ ts)) ≡ w ∷ []) r (λ p u. refl) (holds_unit r)
 
 column_named_so : (before : List (List ℕ)) (n : ℕ) (t : Tree) → Holds (λ c. first_name t ≡ first_text (items_within t) ∷ []) (column_reading before n t)
 column_named_so before n t =
@@ -232,9 +232,9 @@ specification_parts_said others n m (t ▸ u ▸ o ▸ os) =
     let r = operations_reading columns (k + item_count u) (o ▸ os) in
     three_holds (λ w. Unit {0}) (λ cs. columns_in u ≡ names_of_columns (parts_in (codes "abstract") u)) (λ qs. (all : List (List ℕ)) → Q all qs) (λ p. AreOperationsOf (t ▸ u ▸ o ▸ os) (the_specification p).operations) triple
     (name_reading None [] m t) (columns_reading k u) r
-    (anything (name_reading None [] m t)) (columns_named k u)
+    (holds_unit (name_reading None [] m t)) (columns_named k u)
     (for_all Q r (λ all. for_all (λ (first : Leads columns.own all) qs. Alike (IsOperationOf all) (some_forms_in (codes "op") (o ▸ os)) qs) r
-    (λ first. weaker (Along (IsForm (codes "op") (IsOperationOf all)) (o ▸ os)) (Alike (IsOperationOf all) (some_forms_in (codes "op") (o ▸ os))) r (some_alike (codes "op") (IsOperationOf all) (o ▸ os))
+    (λ first. holds_weaker (Along (IsForm (codes "op") (IsOperationOf all)) (o ▸ os)) (Alike (IsOperationOf all) (some_forms_in (codes "op") (o ▸ os))) r (some_alike (codes "op") (IsOperationOf all) (o ▸ os))
     (declared_along (IsForm (codes "op") (IsOperationOf all)) (operation_reading columns) second_name (operation_said columns all first) [] (k + item_count u) (o ▸ os)))))
     (λ w cs qs a h g all first. g all (subst (λ own. Leads own all) (sym h) first))
 

@@ -5,7 +5,7 @@ use Rattle.lc_base.specs.Limits.{action_limit, column_limit, width_limit}
 use Rattle.lc_sexp.specs.Parts.{fits, misshapen}
 use Rattle.lc_sexp.specs.TreeCode.{tree_count}
 use Rattle.lc_sexp.specs.Trees.{Tree, Trees, atom, list, none, ◌▸◌, item_count}
-use Rattle.lc_reading.proofs.Holding.{Holds, anything, weaker, both_holds, behind_holds, limited_holds}
+use Rattle.lc_reading.proofs.Holding.{Holds, holds_unit, holds_weaker, both_holds, behind_holds, limited_holds}
 use Rattle.lc_reading.specs.Naming.{name_reading}
 use Rattle.lc_reading.specs.Readings.{Reading, fine, wrong, limited, both, listed_reading}
 use Rattle.lc_reading.specs.Words.{is}
@@ -50,7 +50,7 @@ name_few names i n (list (t ▸ ts)) = limited_below column_limit (0 + i) n (kth
 section_few : (word : List ℕ) (names : List (List ℕ)) (n : ℕ) (t : Tree) → Holds (λ ws. length ws ≤ column_limit) (section_reading word names 0 n t)
 section_few word names n t =
     behind_holds (λ ws. length ws ≤ column_limit) word (section_parts names 0) n t
-    (λ n m ts. weaker (Each IsNamed 0 ts) (λ ws. length ws ≤ column_limit) (section_parts names 0 n m ts) (λ ws h. omega (arith, each_within IsNamed column_limit 0 (λ i t w below. below) 0 ts ws (omega arith) h))
+    (λ n m ts. holds_weaker (Each IsNamed 0 ts) (λ ws. length ws ≤ column_limit) (section_parts names 0 n m ts) (λ ws h. omega (arith, each_within IsNamed column_limit 0 (λ i t w below. below) 0 ts ws (omega arith) h))
     (placed_holds IsNamed (column_name_reading names 0) (name_few names) 0 m ts))
 
 abbrev pub HasFewAbstracts : SpecificationText → Type 0
@@ -63,8 +63,8 @@ parts_few d n m (t ▸ u ▸ ts) =
     let p = m + item_count t in
     both_holds (λ ws. length ws ≤ column_limit) (λ ss. Unit {0}) HasFewAbstracts specification_of (abstracts_reading d m t p u) (signatures_reading d n (p + item_count u) ts)
     (both_holds (λ w. Unit {0}) (λ ws. length ws ≤ column_limit) (λ ws. length ws ≤ column_limit) behind_own_name (name_reading None [] m t) (section_reading (codes "abstract") d.columns 0 p u)
-    (anything (name_reading None [] m t)) (section_few (codes "abstract") d.columns p u) (λ w ws h g. g))
-    (anything (signatures_reading d n (p + item_count u) ts)) (λ ws ss h g. h)
+    (holds_unit (name_reading None [] m t)) (section_few (codes "abstract") d.columns p u) (λ w ws h g. g))
+    (holds_unit (signatures_reading d n (p + item_count u) ts)) (λ ws ss h g. h)
 
 pub abstracts_few : (d : Declared) (n : ℕ) (t : Tree) → Holds HasFewAbstracts (specification_reading d n t)
 abstracts_few d n t = behind_holds HasFewAbstracts (codes "spec") (specification_parts d) n t (parts_few d)
@@ -83,7 +83,7 @@ column_few names base i n (atom w) = tt
 column_few names base i n (list none) = tt
 column_few names base i n (list (t ▸ ts)) =
     both_holds (λ w. base + i < column_limit) (λ z. Unit {0}) (λ column. base + i < column_limit) column_of (own_name_reading names base i n (n + 1) t) (numbers_reading n (n + 1 + item_count t) ts)
-    (own_name_few names base i n (n + 1) t) (anything (numbers_reading n (n + 1 + item_count t) ts)) (λ w z h u. h)
+    (own_name_few names base i n (n + 1) t) (holds_unit (numbers_reading n (n + 1 + item_count t) ts)) (λ w z h u. h)
 
 -- as many columns as the text has, which are within the limit after `base` others
 abbrev AreWithin : ℕ → Trees → List C.Column → Type 0
@@ -94,7 +94,7 @@ columns_few d i n m none = tt
 columns_few d i n m (t ▸ ts) =
     let base = first_column (slice_get d.spans i) in
     let P = IsColumn base in
-    weaker (Each P 0 (t ▸ ts)) (AreWithin base (t ▸ ts)) (columns_reading d i n m (t ▸ ts))
+    holds_weaker (Each P 0 (t ▸ ts)) (AreWithin base (t ▸ ts)) (columns_reading d i n m (t ▸ ts))
     (λ columns h. (each_counted P 0 (t ▸ ts) columns h, λ few. (let all = each_within P column_limit base (λ i t x below. below) 0 (t ▸ ts) columns (omega (arith, few)) h in omega (arith, all))))
     (placed_holds P (column_reading d.columns base) (column_few d.columns base) 0 m (t ▸ ts))
 
@@ -106,7 +106,7 @@ array_few d i n m none = tt
 array_few d i n m (t ▸ ts) =
     let base = first_column (slice_get d.spans i) in
     both_holds (λ w. Unit {0}) (AreWithin base ts) (IsArrayWithin base (t ▸ ts)) array_of (kth_name_reading d.arrays i m t) (columns_reading d i n (m + item_count t) ts)
-    (anything (kth_name_reading d.arrays i m t)) (columns_few d i n (m + item_count t) ts) (λ w columns u h. h)
+    (holds_unit (kth_name_reading d.arrays i m t)) (columns_few d i n (m + item_count t) ts) (λ w columns u h. h)
 
 -- the columns of all arrays, the first one beginning here
 abbrev pub HaveFew : ℕ → List ArrayText → Type 0
@@ -156,7 +156,7 @@ section_within d n t =
     let P = IsAuxiliary base in
     let read = R.column_reading d.declared.columns base in
     behind_holds (AreFewBehind base) (codes "aux") (λ n. placed_reading read 0) n t
-    (λ n m ts. weaker (Each P 0 ts) (AreFewBehind base) (placed_reading read 0 m ts)
+    (λ n m ts. holds_weaker (Each P 0 ts) (AreFewBehind base) (placed_reading read 0 m ts)
     (λ columns h few. let all = each_within P column_limit base (λ i t x below. below) 0 ts columns (omega (arith, few)) h in omega (arith, all))
     (placed_holds P read (λ i n t. limited_below column_limit (base + i) n (listed_reading (R.column_parts_reading d.declared.columns (base + i)) n t)) 0 m ts))
 

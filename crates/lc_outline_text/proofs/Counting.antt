@@ -3,12 +3,12 @@ use Rattle.std.proofs.Common.{rules, ◌≡◌, ℕ, ◌+◌, ◌*◌, ◌≤◌
 use Rattle.lc_outline_text.specs.Views.{capped, count_cap}
 
 -- enough are counted, whatever is left
-pub enough : (n s whole : ℕ) → count_cap ≤ n → n ≤ count_cap → capped (n + s) ≡ capped whole → count_cap ≡ capped whole
-enough n s whole many few h = omega arith
+pub count_cap_reached : (n s whole : ℕ) → count_cap ≤ n → n ≤ count_cap → capped (n + s) ≡ capped whole → count_cap ≡ capped whole
+count_cap_reached n s whole many few h = omega arith
 
 -- nothing more is counted
-pub counted : (n s whole : ℕ) → n ≤ count_cap → s ≡ 0 → capped (n + s) ≡ capped whole → n ≡ capped whole
-counted n s whole few none h = omega arith
+pub count_without_rest : (n s whole : ℕ) → n ≤ count_cap → s ≡ 0 → capped (n + s) ≡ capped whole → n ≡ capped whole
+count_without_rest n s whole few none h = omega arith
 
 -- one part more
 pub counted_more : (n more own rest s next whole : ℕ) → more ≡ capped own → next ≡ capped (n + more) → s ≡ own + rest → capped (n + s) ≡ capped whole → capped (next + rest) ≡ capped whole

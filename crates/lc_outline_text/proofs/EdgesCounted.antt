@@ -14,7 +14,7 @@ use Rattle.lc_object.specs.Syntax as S
 use Rattle.lc_object.specs.Syntax.{Instr, Operation, Point}
 use Rattle.lc_object.specs.declared.instr.EdgeKind.{EdgeKind}
 use Rattle.lc_object.specs.declared.instr.EdgeKind.TheVariants.{Next, Then, Else}
-use Rattle.lc_object_text.proofs.BodyHolds.{shifted}
+use Rattle.lc_object_text.proofs.BodyHolds.{shifted_target}
 use Rattle.lc_object_text.specs.ObjectNames.{Body, first_text, within_first, later, row_at, body_names}
 use Rattle.lc_outline.specs.Development.{Development, Outline, first_system, invariant_of, asserts_in, asserts_at, ons_in, on_for, on_at, asserts_to, in_operation, in_body}
 use Rattle.lc_outline.specs.Sizes.{columns_of, EdgeSize, way_count, edge_count, columns_acted, rider_ways, returned, ended_columns, edge_size, edge_sizes}
@@ -28,7 +28,7 @@ use Rattle.lc_outline_text.proofs.InstructionsCounted.{IsCoded}
 use Rattle.lc_outline_text.proofs.PointsCounted.{IsPointOf}
 use Rattle.lc_outline_text.proofs.RidersCounted.{Agrees, on_found, edge_counted}
 use Rattle.lc_outline_text.proofs.RowsCounted.{Alike}
-use Rattle.lc_outline_text.proofs.SumsCounted.{point_edges, sum_one, sum_two, IsThere, Stand, there}
+use Rattle.lc_outline_text.proofs.SumsCounted.{point_edges, sum_one, sum_two, IsThere, Stand, point_is_there}
 
 -- a development has these totals, and the columns that are declared
 pub record Meets (d : Declarations) (D : Development) (n : Totals) : Type 0 where
@@ -59,7 +59,7 @@ pub asserts_counted : (d : Declarations) (D : Development) (b : Body) (o p : ℕ
     → length (asserts_at D (p + k)) ≡ slice_index_or (map assert_count fs) k 0
 asserts_counted d D b o p fs xs k h all few =
     let (x, at, count) = counted_at d b o fs xs k h few in
-    asserts_there D (p + k) (slice_index_or (map assert_count fs) k 0) x (there D p xs k x all at).outline count
+    asserts_there D (p + k) (slice_index_or (map assert_count fs) k 0) x (point_is_there D p xs k x all at).outline count
 
 -- a label leads to a point of the same body
 abbrev pub Leads : Declarations → Development → Body → List ℕ → Type 0
@@ -68,7 +68,7 @@ Leads d D b asserts = (w : List ℕ) (l : ℕ) → (body_names d.declared b).lab
 pub labels_lead : (d : Declarations) (D : Development) (b : Body) (o : ℕ) (fs : List Trees) (xs : List (Point × Outline)) → b.labels ≡ map first_text fs → Alike (IsPointOf d b o) fs xs → Stand D b.first xs
     → Leads d D b (map assert_count fs)
 labels_lead d D b o fs xs names h all w l e =
-    let (k, at, is) = shifted b.first l (place_of b.labels w) e in
+    let (k, at, is) = shifted_target b.first l (place_of b.labels w) e in
     let few : k < length fs = subst (λ m. k < m) (ap length names ∙ length-map fs first_text) (place_below b.labels w k at) in
     ap (λ m. length (asserts_at D m)) is ∙ asserts_counted d D b o b.first fs xs k h all few ∙ ap (count_at (map assert_count fs)) (sym at)
 

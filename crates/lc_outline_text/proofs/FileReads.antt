@@ -61,11 +61,11 @@ told_limited ts parts result count h e is =
     as_read ts result (rw same (limited_read parts_view (nat_lt condition_limit whole) 0 (forms_reading (declarations_of ts) (sections_of ts) 0 ts) parts h))
 
 -- what holds of a value that is read also holds of it if a limit is reported
-pub still : (P : Parts → Type 0) (b : Bool) (parts result : Result Parts ReadFault) → result ≡ limited_result b 0 parts → IfOk parts P → IfOk result P
-still P true (Ok p) result e h = rw e tt
-still P true (Err f) result e h = rw e tt
-still P false (Ok p) result e h = rw e h
-still P false (Err f) result e h = rw e tt
+pub limited_result_ok : (P : Parts → Type 0) (b : Bool) (parts result : Result Parts ReadFault) → result ≡ limited_result b 0 parts → IfOk parts P → IfOk result P
+limited_result_ok P true (Ok p) result e h = rw e tt
+limited_result_ok P true (Err f) result e h = rw e tt
+limited_result_ok P false (Ok p) result e h = rw e h
+limited_result_ok P false (Err f) result e h = rw e tt
 
 -- the fault of a file
 fault_told : (bytes : List ℕ) (ts : Trees) (fault : ReadFault) → ReadsAs bytes ts → IsFileRead ts (Err fault) → IsAnswerTo development_view file_reading bytes (Err (told fault))

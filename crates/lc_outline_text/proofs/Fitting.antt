@@ -67,9 +67,9 @@ same_number m n e = eq-eqb m n e
 is_few : (k limit : ℕ) → k ≤ limit → nat_le k limit ≡ true
 is_few k limit h = grind (arith, nat_tests)
 
-pub left : (a b : Bool) → (a && b) ≡ true → a ≡ true
-left true b h = refl
-left false b h = absurd (cc)
+pub and_true_left : (a b : Bool) → (a && b) ≡ true → a ≡ true
+and_true_left true b h = refl
+and_true_left false b h = absurd (cc)
 
 right : (a b : Bool) → (a && b) ≡ true → b ≡ true
 right true b h = h
@@ -77,21 +77,21 @@ right false b h = absurd (cc)
 
 all_both : {X : Type 0} (test : X → Bool) (xs ys : List X) → list_all test xs ≡ true → list_all test ys ≡ true → list_all test (xs ++ ys) ≡ true
 all_both test [] ys h g = g
-all_both test (x ∷ xs) ys h g = and_true (test x) (list_all test (xs ++ ys)) (left (test x) (list_all test xs) h) (all_both test xs ys (right (test x) (list_all test xs) h) g)
+all_both test (x ∷ xs) ys h g = and_true (test x) (list_all test (xs ++ ys)) (and_true_left (test x) (list_all test xs) h) (all_both test xs ys (right (test x) (list_all test xs) h) g)
 
 all_weaker : {X : Type 0} (test other : X → Bool) → ((x : X) → test x ≡ true → other x ≡ true) → (xs : List X) → list_all test xs ≡ true → list_all other xs ≡ true
 all_weaker test other f [] h = refl
-all_weaker test other f (x ∷ xs) h = and_true (other x) (list_all other xs) (f x (left (test x) (list_all test xs) h)) (all_weaker test other f xs (right (test x) (list_all test xs) h))
+all_weaker test other f (x ∷ xs) h = and_true (other x) (list_all other xs) (f x (and_true_left (test x) (list_all test xs) h)) (all_weaker test other f xs (right (test x) (list_all test xs) h))
 
 -- ---- operations
 
 -- the operation of a body
-pub found : (bs : List Body) (os : List O.Operation) (k : ℕ) (b : Body) → AreOperationsOf bs os → slice_get bs k ≡ Some b → (o : O.Operation) × (slice_get os k ≡ Some o) × IsOperationOf b o
-found [] [] k b h e = absurd (cc)
-found [] (o ∷ os) k b h e = absurd h
-found (c ∷ bs) [] k b h e = absurd h
-found (c ∷ bs) (o ∷ os) zero b h e = let same : c ≡ b = cc in (o, refl, subst (λ x. IsOperationOf x o) same h.0)
-found (c ∷ bs) (o ∷ os) (suc k) b h e = found bs os k b h.1 e
+pub operation_of_body : (bs : List Body) (os : List O.Operation) (k : ℕ) (b : Body) → AreOperationsOf bs os → slice_get bs k ≡ Some b → (o : O.Operation) × (slice_get os k ≡ Some o) × IsOperationOf b o
+operation_of_body [] [] k b h e = absurd (cc)
+operation_of_body [] (o ∷ os) k b h e = absurd h
+operation_of_body (c ∷ bs) [] k b h e = absurd h
+operation_of_body (c ∷ bs) (o ∷ os) zero b h e = let same : c ≡ b = cc in (o, refl, subst (λ x. IsOperationOf x o) same h.0)
+operation_of_body (c ∷ bs) (o ∷ os) (suc k) b h e = operation_of_body bs os k b h.1 e
 
 -- it is one of the specification's
 pub matched_below : (os : List O.Operation) (qs : List Q.Operation) (k : ℕ) (o : O.Operation) → are_matched os qs ≡ true → slice_get os k ≡ Some o → k < length qs
@@ -131,7 +131,7 @@ deed_resolved d D ps o (Marks k by) h b e =
 
 rider_resolved : (d : Declarations) (D : Development) (ps : List (Point × Outline)) (o : ℕ) → Fits d D ps → o < length d.declared.operations → (r : Rider) → rider_is_known (known_of d) (own_ways d o) r ≡ true → rider_is_resolved D o r ≡ true
 rider_resolved d D ps o h b r e =
-    and_true (condition_is_resolved r.condition) (deed_is_resolved D o r.deed) (left (condition_is_resolved r.condition) (deed_is_known (known_of d) (own_ways d o) r.deed) e)
+    and_true (condition_is_resolved r.condition) (deed_is_resolved D o r.deed) (and_true_left (condition_is_resolved r.condition) (deed_is_known (known_of d) (own_ways d o) r.deed) e)
     (deed_resolved d D ps o r.deed h b (right (condition_is_resolved r.condition) (deed_is_known (known_of d) (own_ways d o) r.deed) e))
 
 -- ---- edges
@@ -209,7 +209,7 @@ record IsWithin (d : Declarations) (D : Development) (p : Point × Outline) (b :
 
 within : (d : Declarations) (D : Development) (ps : List (Point × Outline)) (p : Point × Outline) (b : Body) → Fits d D ps → slice_get d.declared.bodies p.0.operation ≡ Some b → IsWithin d D p b
 within d D ps p b h e =
-    let (o, f, fit) = found d.declared.bodies D.object.operations p.0.operation b h.operations e in
+    let (o, f, fit) = operation_of_body d.declared.bodies D.object.operations p.0.operation b h.operations e in
     record {
       own = omega (arith, h.counted, matched_below D.object.operations D.specification.operations p.0.operation o h.matched f);
       count = variables b o fit ∙ sym (ap (variables_at D.object) f);

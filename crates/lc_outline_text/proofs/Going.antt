@@ -6,7 +6,7 @@ use Rattle.std.specs.Prelude.{codes, nat_lt, slice_get}
 use Rattle.lc_sexp.specs.Parts.{fits, misshapen}
 use Rattle.lc_sexp.specs.TreeCode.{tree_count}
 use Rattle.lc_sexp.specs.Trees.{Tree, Trees, atom, list, none, ◌▸◌}
-use Rattle.lc_reading.proofs.Holding.{Holds, weaker, and_holds}
+use Rattle.lc_reading.proofs.Holding.{Holds, holds_weaker, and_holds}
 use Rattle.lc_reading.specs.Listed.{place_of}
 use Rattle.lc_term.specs.Syntax.{Term}
 use Rattle.lc_object_text.specs.ObjectNames.{first_text}
@@ -35,7 +35,7 @@ some_read t ts (b ∷ bs) e = refl
 pub ways_said : (columns : Columns) (variables : List (List ℕ)) (count : Option ℕ) (m : ℕ) (t : Tree) (ts : Trees) → Holds (AreWaysOf (t ▸ ts)) (ways_reading columns variables count m (t ▸ ts))
 ways_said columns variables count m t ts =
     let r = ways_reading columns variables count m (t ▸ ts) in
-    weaker (λ bs. AreWays (t ▸ ts) bs × (length bs ≡ tree_count (t ▸ ts))) (AreWaysOf (t ▸ ts)) r (λ bs h. record { count = h.1; some = some_read t ts bs h.1; ways = h.0 })
+    holds_weaker (λ bs. AreWays (t ▸ ts) bs × (length bs ≡ tree_count (t ▸ ts))) (AreWaysOf (t ▸ ts)) r (λ bs h. record { count = h.1; some = some_read t ts bs h.1; ways = h.0 })
     (and_holds (AreWays (t ▸ ts)) (λ bs. length bs ≡ tree_count (t ▸ ts)) r (Q.ways_said columns variables count m (t ▸ ts)) (Q.ways_counted columns variables count m (t ▸ ts)))
 
 -- ---- the choices of a text

@@ -4,7 +4,7 @@ use Rattle.std.specs.Prelude.{codes, option_map}
 use Rattle.lc_base.specs.NameText.{is_name}
 use Rattle.lc_sexp.specs.TreeCode.{tree_count}
 use Rattle.lc_sexp.specs.Trees.{Tree, Trees, atom, list, none, ◌▸◌, item_count}
-use Rattle.lc_reading.proofs.Holding.{Holds, anything, both_holds, if_holds}
+use Rattle.lc_reading.proofs.Holding.{Holds, holds_unit, both_holds, if_holds}
 use Rattle.lc_reading.proofs.Words.{is-true}
 use Rattle.lc_reading.specs.Naming.{known}
 use Rattle.lc_reading.specs.Readings.{fine, wrong}
@@ -81,7 +81,7 @@ module _ (names : Names) (code : CodeNames) where
 
   place_said : (i : ℕ) (t : Tree) (j : ℕ) (u : Tree) → Holds (λ (p : ℕ × Term). IsArray t p.0) (place_reading names code i t j u)
   place_said i t j u =
-      both_holds (IsArray t) (λ x. Unit {0}) (λ (p : ℕ × Term). IsArray t p.0) pair (array_reading code i t) (term_reading names [] j u) (array_said i t) (anything (term_reading names [] j u)) (λ x y h g. h)
+      both_holds (IsArray t) (λ x. Unit {0}) (λ (p : ℕ × Term). IsArray t p.0) pair (array_reading code i t) (term_reading names [] j u) (array_said i t) (holds_unit (term_reading names [] j u)) (λ x y h g. h)
 
   -- ---- instructions by their words
 
@@ -93,9 +93,9 @@ module _ (names : Names) (code : CodeNames) where
   loads w e n m (a ▸ t ▸ r ▸ l ▸ ts) =
       let i = m + item_count a + item_count t in
       both_holds (λ p. Unit {0}) (λ (q : List ℕ × ℕ). IsLabel l q.1) (IsCoded code (atom w ▸ a ▸ t ▸ r ▸ l ▸ ts)) load_of (place_reading names code m a (m + item_count a) t) (moved_reading code (row_width code a) i r (i + item_count r) l)
-      (anything (place_reading names code m a (m + item_count a) t))
+      (holds_unit (place_reading names code m a (m + item_count a) t))
       (both_holds (λ x. Unit {0}) (IsLabel l) (λ (q : List ℕ × ℕ). IsLabel l q.1) pair (targets_reading code (row_width code a) i r) (label_reading code (i + item_count r) l)
-      (anything (targets_reading code (row_width code a) i r)) (label_said (i + item_count r) l) (λ x y h g. g))
+      (holds_unit (targets_reading code (row_width code a) i r)) (label_said (i + item_count r) l) (λ x y h g. g))
       (λ p q h g. (e, g))
 
   stores : (w : List ℕ) → w ≡ codes "store" → (n m : ℕ) (ts : Trees) → Holds (IsCoded code (atom w ▸ ts)) (store_reading names code n m ts)
@@ -130,7 +130,7 @@ module _ (names : Names) (code : CodeNames) where
       both_holds (λ (p : ℕ × Term). IsArray a p.0) Both (IsCoded code (atom w ▸ a ▸ t ▸ r ▸ s ▸ l ▸ k ▸ ts)) cas_of (place_reading names code m a (m + item_count a) t)
       (exchange_reading names code width i r j s x l y k) (place_said m a (m + item_count a) t)
       (both_holds Rows Labels Both pair (rows_reading names width i r j s) (labels_reading code x l y k)
-      (both_holds (λ vs. Unit {0}) (HaveWidth width) Rows pair (values_reading names width i r) (values_reading names width j s) (anything (values_reading names width i r)) (values_said width j s) (λ u v h g. g))
+      (both_holds (λ vs. Unit {0}) (HaveWidth width) Rows pair (values_reading names width i r) (values_reading names width j s) (holds_unit (values_reading names width i r)) (values_said width j s) (λ u v h g. g))
       (labels_said x l y k) (λ u v h g. (h, g)))
       (λ p q h g. (e, row_of a p.0 (length q.0.1) h g.0, g.1.0, g.1.1))
 
@@ -138,7 +138,7 @@ module _ (names : Names) (code : CodeNames) where
   sets w e n m none = tt
   sets w e n m (a ▸ none) = tt
   sets w e n m (a ▸ l ▸ ts) =
-      both_holds (λ p. Unit {0}) (IsLabel l) (IsCoded code (atom w ▸ a ▸ l ▸ ts)) set_of _ (label_reading code (m + item_count a) l) (anything _) (label_said (m + item_count a) l) (λ p q h g. (e, g))
+      both_holds (λ p. Unit {0}) (IsLabel l) (IsCoded code (atom w ▸ a ▸ l ▸ ts)) set_of _ (label_reading code (m + item_count a) l) (holds_unit _) (label_said (m + item_count a) l) (λ p q h g. (e, g))
 
   adds : (w : List ℕ) → w ≡ codes "faa" → (n m : ℕ) (ts : Trees) → Holds (IsCoded code (atom w ▸ ts)) (faa_reading names code n m ts)
   adds w e n m none = tt
@@ -154,7 +154,7 @@ module _ (names : Names) (code : CodeNames) where
       let Added : List ℕ × (List Term × ℕ) → Type 0 = λ q. Stored q.1 in
       both_holds (λ (p : ℕ × Term). IsArray a p.0) Added (IsCoded code (atom w ▸ a ▸ t ▸ r ▸ d ▸ l ▸ ts)) faa_of (place_reading names code m a (m + item_count a) t)
       (adding_reading names code width i r j d (j + item_count d) l) (place_said m a (m + item_count a) t)
-      (both_holds (λ rs. Unit {0}) Stored Added pair (targets_reading code width i r) (stored_reading names code width j d (j + item_count d) l) (anything (targets_reading code width i r))
+      (both_holds (λ rs. Unit {0}) Stored Added pair (targets_reading code width i r) (stored_reading names code width j d (j + item_count d) l) (holds_unit (targets_reading code width i r))
       (both_holds (HaveWidth width) (IsLabel l) Stored pair (values_reading names width j d) (label_reading code (j + item_count d) l) (values_said width j d) (label_said (j + item_count d) l) (λ x y h g. (h, g)))
       (λ x y u h. h))
       (λ p q h g. (e, row_of a p.0 (length q.1.0) h g.0, g.1))
@@ -165,10 +165,10 @@ module _ (names : Names) (code : CodeNames) where
   tests w e n m (a ▸ l ▸ none) = tt
   tests w e n m (a ▸ l ▸ k ▸ ts) =
       let i = m + item_count a in
-      both_holds (λ f. Unit {0}) (λ (q : ℕ × ℕ). IsLabel l q.0 × IsLabel k q.1) (IsCoded code (atom w ▸ a ▸ l ▸ k ▸ ts)) if_of _ (labels_reading code i l (i + item_count l) k) (anything _) (labels_said i l (i + item_count l) k) (λ p q h g. (e, g.0, g.1))
+      both_holds (λ f. Unit {0}) (λ (q : ℕ × ℕ). IsLabel l q.0 × IsLabel k q.1) (IsCoded code (atom w ▸ a ▸ l ▸ k ▸ ts)) if_of _ (labels_reading code i l (i + item_count l) k) (holds_unit _) (labels_said i l (i + item_count l) k) (λ p q h g. (e, g.0, g.1))
 
   returns : (w : List ℕ) → w ≡ codes "return" → (n m : ℕ) (ts : Trees) → Holds (IsCoded code (atom w ▸ ts)) (return_reading names code n m ts)
-  returns w e n m ts = both_holds (λ u. Unit {0}) (λ vs. Unit {0}) (IsCoded code (atom w ▸ ts)) return_of _ _ (anything _) (anything _) (λ p q h g. e)
+  returns w e n m ts = both_holds (λ u. Unit {0}) (λ vs. Unit {0}) (IsCoded code (atom w ▸ ts)) return_of _ _ (holds_unit _) (holds_unit _) (λ p q h g. e)
 
   -- the first whose test holds
   first_of : {X : Type 0} (P : Option X → Type 0) (o p q r s u : Option X) (a b c d e f : Bool) → (a ≡ true → P o) → (b ≡ true → P p) → (c ≡ true → P q) → (d ≡ true → P r) → (e ≡ true → P s) → (f ≡ true → P u) → P None

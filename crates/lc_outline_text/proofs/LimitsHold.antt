@@ -4,7 +4,7 @@ use Rattle.std.proofs.lemmas.Bool.Decides.{nat_tests}
 use Rattle.std.specs.Prelude.{codes, nat_le, nat_lt, slice_get, Result, Ok, Err, IfOk}
 use Rattle.lc_base.specs.Limits.{action_limit, column_limit, condition_limit}
 use Rattle.lc_sexp.specs.Trees.{Tree, Trees, none, ◌▸◌, item_count}
-use Rattle.lc_reading.proofs.Holding.{Holds, held, anything, weaker, both_holds, ended_holds, and_holds, and_true}
+use Rattle.lc_reading.proofs.Holding.{Holds, holds_of_fine, holds_unit, holds_weaker, both_holds, ended_holds, and_holds, and_true}
 use Rattle.lc_reading.specs.Naming.{name_reading}
 use Rattle.lc_reading.specs.Readings.{Reading, fine, flawed, limited}
 use Rattle.lc_reading.specs.declared.flaw.ReadFault.{ReadFault}
@@ -48,7 +48,7 @@ HasFew p = HasFewAbstracts p.0
 specification_few : (t : Tree) (d : Declarations) (n : ℕ) → Holds HasFew (specification_reading d n t)
 specification_few t d n =
     let other = Q.specification_reading d.declared.columns n t in
-    both_holds HasFewAbstracts (λ q. Unit {0}) HasFew pair (O.specification_reading d.declared n t) other (abstracts_few d.declared n t) (anything other) (λ text q h u. h)
+    both_holds HasFewAbstracts (λ q. Unit {0}) HasFew pair (O.specification_reading d.declared n t) other (abstracts_few d.declared n t) (holds_unit other) (λ text q h u. h)
 
 abbrev AreSidesFew : Declarations → Sides → Type 0
 AreSidesFew d x = AreFewBehind d.declared.auxiliaries x.auxiliaries × (length x.actions ≤ action_limit)
@@ -63,9 +63,9 @@ sides_few d s n =
     let conditions = conditions_reading d n s.invariant.number s.invariant.trees in
     both_holds (AreActionsFew d) (λ c. Unit {0}) (AreSidesFew d) sides_of (actions_reading d s n) conditions
     (both_holds (AreFewBehind d.declared.auxiliaries) (λ actions. length actions ≤ action_limit) (AreActionsFew d) pair _ listed (auxiliaries_few d n s.auxiliaries.number s.auxiliaries.trees)
-    (weaker (λ actions. 0 ≤ action_limit → 0 + length actions ≤ action_limit) (λ actions. length actions ≤ action_limit) listed (λ actions h. let all = h (omega arith) in omega (arith, all))
+    (holds_weaker (λ actions. 0 ≤ action_limit → 0 + length actions ≤ action_limit) (λ actions. length actions ≤ action_limit) listed (λ actions h. let all = h (omega arith) in omega (arith, all))
     (actions_few (known_of d) 0 actions.number actions.trees)) (λ columns actions h g. (h, g)))
-    (anything conditions) (λ p c h u. h)
+    (holds_unit conditions) (λ p c h u. h)
 
 abbrev AreArraysFew : Sections → List O.ArrayText → Type 0
 AreArraysFew s arrays = HaveFew (length (abstracts_in s)) arrays
@@ -76,9 +76,9 @@ tables_few s n =
     let name = O.first_reading (name_reading None []) n s.object.number s.object.trees in
     let arrays = lists_reading (codes "array") (O.array_reading d) 0 s.arrays.number s.arrays.trees in
     both_holds (λ (named : List ℕ × List O.ArrayText). AreArraysFew s named.1) (λ ws. Unit {0}) (λ (tables : O.Tables). AreArraysFew s tables.arrays) O.tables_of (O.arrays_reading d s n) (O.auxiliaries_reading d s n)
-    (both_holds (λ w. Unit {0}) (AreArraysFew s) (λ (named : List ℕ × List O.ArrayText). AreArraysFew s named.1) pair name arrays (anything name)
+    (both_holds (λ w. Unit {0}) (AreArraysFew s) (λ (named : List ℕ × List O.ArrayText). AreArraysFew s named.1) pair name arrays (holds_unit name)
     (arrays_few d (length (abstracts_in s)) 0 s.arrays.number s.arrays.trees (λ j. let e : 0 + j ≡ j = omega arith in ap (slice_get d.spans) e)) (λ w arrays u h. h))
-    (anything (O.auxiliaries_reading d s n)) (λ named ws h u. h)
+    (holds_unit (O.auxiliaries_reading d s n)) (λ named ws h u. h)
 
 abbrev IsObjectFew : Sections → Parts → Type 0
 IsObjectFew s o = AreArraysFew s o.0.0.arrays × AreSidesFew (declarations_in s) o.0.1
@@ -90,7 +90,7 @@ object_few s n =
     let bodies = bodies_reading d n s.bodies.number s.bodies.trees in
     both_holds HasTables (λ bs. Unit {0}) (IsObjectFew s) pair (tables_reading d s n) bodies
     (both_holds (λ (tables : O.Tables). AreArraysFew s tables.arrays) (AreSidesFew d) HasTables pair (O.tables_reading d.declared s n) (sides_reading d s n) (tables_few s n) (sides_few d s n) (λ tables sides h g. (h, g)))
-    (anything bodies) (λ x bs h u. h)
+    (holds_unit bodies) (λ x bs h u. h)
 
 -- ---- the whole
 
@@ -124,7 +124,7 @@ forms_few : (ts : Trees) → Holds IsWithin (forms_reading (declarations_of ts) 
 forms_few none = tt
 forms_few (t ▸ none) =
     let r = specification_reading (declarations_of (t ▸ none)) 0 t in
-    both_holds (λ p. Unit {0}) (λ o. ⊥) IsWithin development_of r _ (anything r) tt (λ p o h g. absurd g)
+    both_holds (λ p. Unit {0}) (λ o. ⊥) IsWithin development_of r _ (holds_unit r) tt (λ p o h g. absurd g)
 forms_few (t ▸ u ▸ ts) =
     let s = sections_of (t ▸ u ▸ ts) in
     let d = declarations_of (t ▸ u ▸ ts) in
@@ -144,7 +144,7 @@ says_limited ts D e =
     let forms = forms_reading (declarations_of ts) (sections_of ts) 0 ts in
     let text = condition_count (declarations_of ts) (sections_of ts) in
     let read = within (nat_lt condition_limit text) 0 forms D e in
-    let few = held IsWithin forms D (forms_few ts) read.1 in
+    let few = holds_of_fine IsWithin forms D (forms_few ts) read.1 in
     let conditions : count (sizes_of D) ≤ condition_limit = subst (λ k. k ≤ condition_limit) (sym (forms_sized ts D read.1)) (few_of text condition_limit read.0) in
     let a = nat_le (first_system D) column_limit in
     let b = nat_le (length D.actions) action_limit in

@@ -4,7 +4,7 @@ use Rattle.std.specs.List.{list_any}
 use Rattle.std.specs.Prelude.{codes, not, is_some}
 use Rattle.lc_sexp.specs.Parts.{fits, form_fit}
 use Rattle.lc_sexp.specs.Trees.{Tree, Trees, atom, list, none, ◌▸◌, item_count}
-use Rattle.lc_reading.proofs.Holding.{Holds, anything, both_holds, if_holds, limited_holds}
+use Rattle.lc_reading.proofs.Holding.{Holds, holds_unit, both_holds, if_holds, limited_holds}
 use Rattle.lc_reading.proofs.Words.{is-true}
 use Rattle.lc_reading.specs.Readings.{wrong}
 use Rattle.lc_reading.specs.Words.{is}
@@ -48,14 +48,14 @@ loads w names code n m none = tt
 loads w names code n m (a ▸ none) = tt
 loads w names code n m (a ▸ t ▸ none) = tt
 loads w names code n m (a ▸ t ▸ r ▸ none) = tt
-loads w names code n m (a ▸ t ▸ r ▸ l ▸ ts) = both_holds (λ p. Unit {0}) (λ q. Unit {0}) (IsOfWord w) load_of _ _ (anything _) (anything _) (λ p q h g. tt)
+loads w names code n m (a ▸ t ▸ r ▸ l ▸ ts) = both_holds (λ p. Unit {0}) (λ q. Unit {0}) (IsOfWord w) load_of _ _ (holds_unit _) (holds_unit _) (λ p q h g. tt)
 
 stores_row : (w : List ℕ) → is w (codes "store") ≡ true → (names : Names) (code : CodeNames) (n m : ℕ) (ts : Trees) → Holds (IsOfWord w) (store_reading names code n m ts)
 stores_row w e names code n m none = tt
 stores_row w e names code n m (a ▸ none) = tt
 stores_row w e names code n m (a ▸ t ▸ none) = tt
 stores_row w e names code n m (a ▸ t ▸ r ▸ none) = tt
-stores_row w e names code n m (a ▸ t ▸ r ▸ l ▸ ts) = both_holds (λ p. Unit {0}) (λ q. Unit {0}) (IsOfWord w) store_of _ _ (anything _) (anything _) (λ p q h g. e)
+stores_row w e names code n m (a ▸ t ▸ r ▸ l ▸ ts) = both_holds (λ p. Unit {0}) (λ q. Unit {0}) (IsOfWord w) store_of _ _ (holds_unit _) (holds_unit _) (λ p q h g. e)
 
 exchanges : (w : List ℕ) → is w (codes "cas") ≡ true → (names : Names) (code : CodeNames) (n m : ℕ) (ts : Trees) → Holds (IsOfWord w) (cas_reading names code n m ts)
 exchanges w e names code n m none = tt
@@ -64,12 +64,12 @@ exchanges w e names code n m (a ▸ t ▸ none) = tt
 exchanges w e names code n m (a ▸ t ▸ r ▸ none) = tt
 exchanges w e names code n m (a ▸ t ▸ r ▸ s ▸ none) = tt
 exchanges w e names code n m (a ▸ t ▸ r ▸ s ▸ l ▸ none) = tt
-exchanges w e names code n m (a ▸ t ▸ r ▸ s ▸ l ▸ k ▸ ts) = both_holds (λ p. Unit {0}) (λ q. Unit {0}) (IsOfWord w) cas_of _ _ (anything _) (anything _) (λ p q h g. e)
+exchanges w e names code n m (a ▸ t ▸ r ▸ s ▸ l ▸ k ▸ ts) = both_holds (λ p. Unit {0}) (λ q. Unit {0}) (IsOfWord w) cas_of _ _ (holds_unit _) (holds_unit _) (λ p q h g. e)
 
 sets : (w : List ℕ) (names : Names) (code : CodeNames) (n m : ℕ) (ts : Trees) → Holds (IsOfWord w) (set_reading names code n m ts)
 sets w names code n m none = tt
 sets w names code n m (a ▸ none) = tt
-sets w names code n m (a ▸ l ▸ ts) = both_holds (λ p. Unit {0}) (λ q. Unit {0}) (IsOfWord w) set_of _ _ (anything _) (anything _) (λ p q h g. tt)
+sets w names code n m (a ▸ l ▸ ts) = both_holds (λ p. Unit {0}) (λ q. Unit {0}) (IsOfWord w) set_of _ _ (holds_unit _) (holds_unit _) (λ p q h g. tt)
 
 adds : (w : List ℕ) → is w (codes "faa") ≡ true → (names : Names) (code : CodeNames) (n m : ℕ) (ts : Trees) → Holds (IsOfWord w) (faa_reading names code n m ts)
 adds w e names code n m none = tt
@@ -77,13 +77,13 @@ adds w e names code n m (a ▸ none) = tt
 adds w e names code n m (a ▸ t ▸ none) = tt
 adds w e names code n m (a ▸ t ▸ r ▸ none) = tt
 adds w e names code n m (a ▸ t ▸ r ▸ d ▸ none) = tt
-adds w e names code n m (a ▸ t ▸ r ▸ d ▸ l ▸ ts) = both_holds (λ p. Unit {0}) (λ q. Unit {0}) (IsOfWord w) faa_of _ _ (anything _) (anything _) (λ p q h g. e)
+adds w e names code n m (a ▸ t ▸ r ▸ d ▸ l ▸ ts) = both_holds (λ p. Unit {0}) (λ q. Unit {0}) (IsOfWord w) faa_of _ _ (holds_unit _) (holds_unit _) (λ p q h g. e)
 
 tests : (w : List ℕ) (names : Names) (code : CodeNames) (n m : ℕ) (ts : Trees) → Holds (IsOfWord w) (if_reading names code n m ts)
 tests w names code n m none = tt
 tests w names code n m (a ▸ none) = tt
 tests w names code n m (a ▸ l ▸ none) = tt
-tests w names code n m (a ▸ l ▸ k ▸ ts) = both_holds (λ p. Unit {0}) (λ q. Unit {0}) (IsOfWord w) if_of _ _ (anything _) (anything _) (λ p q h g. tt)
+tests w names code n m (a ▸ l ▸ k ▸ ts) = both_holds (λ p. Unit {0}) (λ q. Unit {0}) (IsOfWord w) if_of _ _ (holds_unit _) (holds_unit _) (λ p q h g. tt)
 
 -- the first whose test holds
 first_of : {X : Type 0} (P : Option X → Type 0) (o p q r s u : Option X) (a b c d e f : Bool) → P o → (b ≡ true → P p) → (c ≡ true → P q) → P r → (e ≡ true → P s) → P u → P None
@@ -113,7 +113,7 @@ instruction_word names code n (list none) = tt
 instruction_word names code n (list (list us ▸ ts)) = tt
 instruction_word names code n (list (atom w ▸ ts)) =
     if_holds (IsOfWord w) (is w (codes "return")) (return_reading names code n (n + 2) ts) (code_reading names code n (n + 2) ts (head_of w))
-    (both_holds (λ p. Unit {0}) (λ q. Unit {0}) (IsOfWord w) return_of _ _ (anything _) (anything _) (λ p q h g. tt)) (by_head w names code n (n + 2) ts)
+    (both_holds (λ p. Unit {0}) (λ q. Unit {0}) (IsOfWord w) return_of _ _ (holds_unit _) (holds_unit _) (λ p q h g. tt)) (by_head w names code n (n + 2) ts)
 
 -- ---- what is done at an edge
 
@@ -133,8 +133,8 @@ parts_at known names own edges n m (t ▸ u ▸ ts) =
     if_holds (λ x. kind_of (text_in t) ≡ Some x.edge) (is_refused edges (edge_of t)) (wrong Shape n) _ tt
     (limited_holds (λ x. kind_of (text_in t) ≡ Some x.edge) _ n _
     (both_holds (λ p. kind_of (text_in t) ≡ Some p.0) (λ rs. Unit {0}) (λ x. kind_of (text_in t) ≡ Some x.edge) the_on _ _
-    (both_holds (λ k. edge_of t ≡ Some k) (λ c. Unit {0}) (λ p. kind_of (text_in t) ≡ Some p.0) pair _ _ (edge_found m (edge_of t)) (anything _) (λ k c h g. sym (edge_text t) ∙ h))
-    (anything _) (λ p rs h g. h)))
+    (both_holds (λ k. edge_of t ≡ Some k) (λ c. Unit {0}) (λ p. kind_of (text_in t) ≡ Some p.0) pair _ _ (edge_found m (edge_of t)) (holds_unit _) (λ k c h g. sym (edge_text t) ∙ h))
+    (holds_unit _) (λ p rs h g. h)))
 
 on_at : (known : Known) (names : Names) (own : Option Ways) (edges : Edges) (n : ℕ) (t : Tree)
     → Holds (λ x. (form_fit (codes "on") t ≡ fits (parts_in (codes "on") t)) × (kind_of (first_text (parts_in (codes "on") t)) ≡ Some x.edge)) (on_reading known names own edges n t)
@@ -221,11 +221,11 @@ cas_acts actions w ons e h =
 abbrev pub AreFound : List (List ℕ) → List Trees → List On → Type 0
 AreFound actions forms ons = (kind : EdgeKind) → list_any (acts actions (edge_word kind)) forms ≡ true → is_some (on_for ons kind) ≡ true
 
-pub met : (actions : List (List ℕ)) (w : List ℕ) (forms : List Trees) (ons : List On) (i : Instr) → IsOfWord w i → lacks_on actions w forms ≡ false → AreFound actions forms ons → IsMet i ons
-met actions w forms ons (S.Load a t rs l) h e f = tt
-met actions w forms ons (S.Store a t vs l) h e f = f Next (store_acts actions w forms h e)
-met actions w forms ons (S.Cas a t old new l m) h e f = f Then (cas_acts actions w forms h e)
-met actions w forms ons (S.Set rs vs l) h e f = tt
-met actions w forms ons (S.Faa a t rs ds l) h e f = f Next (faa_acts actions w forms h e)
-met actions w forms ons (S.If g l m) h e f = tt
-met actions w forms ons (S.Return vs) h e f = tt
+pub instruction_is_met : (actions : List (List ℕ)) (w : List ℕ) (forms : List Trees) (ons : List On) (i : Instr) → IsOfWord w i → lacks_on actions w forms ≡ false → AreFound actions forms ons → IsMet i ons
+instruction_is_met actions w forms ons (S.Load a t rs l) h e f = tt
+instruction_is_met actions w forms ons (S.Store a t vs l) h e f = f Next (store_acts actions w forms h e)
+instruction_is_met actions w forms ons (S.Cas a t old new l m) h e f = f Then (cas_acts actions w forms h e)
+instruction_is_met actions w forms ons (S.Set rs vs l) h e f = tt
+instruction_is_met actions w forms ons (S.Faa a t rs ds l) h e f = f Next (faa_acts actions w forms h e)
+instruction_is_met actions w forms ons (S.If g l m) h e f = tt
+instruction_is_met actions w forms ons (S.Return vs) h e f = tt

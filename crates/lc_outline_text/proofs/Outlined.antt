@@ -5,7 +5,7 @@ use Rattle.std.specs.List.{list_all, list_any}
 use Rattle.std.specs.Prelude.{codes, nat_lt, slice_get}
 use Rattle.lc_sexp.specs.TreeCode.{tree_count}
 use Rattle.lc_sexp.specs.Trees.{Tree, Trees, none, ◌▸◌, item_count}
-use Rattle.lc_reading.proofs.Holding.{Holds, anything, both_holds, if_holds, behind_holds, each_holds, and_holds, weaker, and_true}
+use Rattle.lc_reading.proofs.Holding.{Holds, holds_unit, both_holds, if_holds, behind_holds, each_holds, and_holds, holds_weaker, and_true}
 use Rattle.lc_reading.specs.Readings.{Reading, fine, flawed, wrong, both}
 use Rattle.lc_reading.specs.declared.pass.Pass.TheVariants.{Shape}
 use Rattle.lc_term.specs.Lists.{Every}
@@ -30,7 +30,7 @@ use Rattle.lc_rider_text.specs.Known.{Known, Ways}
 use Rattle.lc_rider_text.specs.Ons.{ons_reading}
 use Rattle.lc_rider_text.specs.Scopes.{beside_names}
 use Rattle.lc_rider_text.specs.declared.edges.Edges.{Edges}
-use Rattle.lc_outline_text.proofs.Needed.{IsOfWord, instruction_word, IsMet, AreFound, met, on_found}
+use Rattle.lc_outline_text.proofs.Needed.{IsOfWord, instruction_word, IsMet, AreFound, instruction_is_met, on_found}
 use Rattle.lc_outline_text.specs.Bodies.{names_in, due_reading, ith_reading, bodies_reading}
 use Rattle.lc_outline_text.specs.Declarations.{Declarations, known_of, own_ways}
 use Rattle.lc_outline_text.specs.Developments.{code_of, outlines_of}
@@ -96,7 +96,7 @@ beside_holds : (known : Known) (others : Option (List (List ℕ))) (own : Option
 beside_holds known others own n o code name r h m none = tt
 beside_holds known others own n o code name (flawed f) h m (t ▸ ts) =
     let P = IsOutlined known own (variable_total others) o in
-    if_holds P _ (wrong Shape n) _ tt (both_holds (λ q. ⊥) (λ x. Unit {0}) P pair (both (point_of o) name (flawed f)) _ (never o name f) (anything _) (λ q x h g. absurd h))
+    if_holds P _ (wrong Shape n) _ tt (both_holds (λ q. ⊥) (λ x. Unit {0}) P pair (both (point_of o) name (flawed f)) _ (never o name f) (holds_unit _) (λ q x h g. absurd h))
 beside_holds known others own n o code name (fine i) h m (t ▸ ts) = by_test (lacks_on known.actions (code_word code) (forms_in (codes "on") ts)) refl where
   by_test : (c : Bool) → lacks_on known.actions (code_word code) (forms_in (codes "on") ts) ≡ c
       → Holds (IsOutlined known own (variable_total others) o)
@@ -110,7 +110,7 @@ beside_holds known others own n o code name (fine i) h m (t ▸ ts) = by_test (l
         scoped = k.0;
         named = k.1.0.0;
         limited = k.1.0.1;
-        met = subst (λ j. IsMet j x.ons) (sym g.1) (met known.actions (code_word code) (forms_in (codes "on") ts) x.ons i h e k.1.1);
+        met = subst (λ j. IsMet j x.ons) (sym g.1) (instruction_is_met known.actions (code_word code) (forms_in (codes "on") ts) x.ons i h e k.1.1);
       })
 
 -- ---- a body
@@ -149,7 +149,7 @@ body_outlines d b o n m (op ▸ locals ▸ ts) =
     let P : BodyText (Point × Outline) → Type 0 = λ x. Every (IsPointOf d b o) x.points in
     if_holds P (is_of_another d.declared.operations b.operation op) (wrong Shape n) _ tt
     (both_holds (λ ws. Unit {0}) (Every (IsPointOf d b o)) P body_of (locals_reading d.declared b m op (m + item_count op) locals) _
-    (anything (locals_reading d.declared b m op (m + item_count op) locals)) (points_outlined d b o n (m + item_count op + item_count locals) ts) (λ ws ps h g. g))
+    (holds_unit (locals_reading d.declared b m op (m + item_count op) locals)) (points_outlined d b o n (m + item_count op + item_count locals) ts) (λ ws ps h g. g))
 
 -- the body of the operation of this number, as it is declared
 abbrev pub IsBodyOf : Declarations → ℕ → BodyText (Point × Outline) → Type 0
@@ -158,7 +158,7 @@ IsBodyOf d o x = (b : Body) × (slice_get d.declared.bodies o ≡ Some b) × Eve
 due_outlined : (d : Declarations) (o n : ℕ) (t : Tree) (due : Option Body) → slice_get d.declared.bodies o ≡ due → Holds (IsBodyOf d o) (due_reading d due o n t)
 due_outlined d o n t None e = tt
 due_outlined d o n t (Some b) e =
-    weaker (λ x. Every (IsPointOf d b o) x.points) (IsBodyOf d o) (body_reading d.declared b (side_of d b o) o n t) (λ x h. (b, e, h))
+    holds_weaker (λ x. Every (IsPointOf d b o) x.points) (IsBodyOf d o) (body_reading d.declared b (side_of d b o) o n t) (λ x h. (b, e, h))
     (behind_holds (λ x. Every (IsPointOf d b o) x.points) (codes "body") (body_parts d.declared b (side_of d b o) o) n t (λ n m ts. body_outlines d b o n m ts))
 
 abbrev pub AreBodiesOf : Declarations → ℕ → List (BodyText (Point × Outline)) → Type 0

@@ -18,7 +18,7 @@ use Rattle.lc_object_text.specs.Objects.{Signature, SpecificationText, Tables}
 use Rattle.lc_object_text.specs.Points.{BodyText}
 use Rattle.lc_object_text.specs.Sections.{Sections, parts_in}
 use Rattle.lc_rider_text.specs.Known.{entry_at}
-use Rattle.lc_outline_text.proofs.Fitting.{found}
+use Rattle.lc_outline_text.proofs.Fitting.{operation_of_body}
 use Rattle.lc_outline_text.specs.Declarations.{declarations_in, known_of, ways_called, ways_of_body, own_ways}
 
 -- a name that occurs nowhere before has its first place here
@@ -83,5 +83,5 @@ own_there s text object h g o few =
     let enough : due ≤ tree_count s.bodies.trees = subst (λ n. bodies_due n ≤ tree_count s.bodies.trees) names g.1.0 in
     let y = body_there d.operations d.calls 0 0 due o s.bodies.trees (all_due (length (operations_in s)) o (omega (arith, few, names))) enough in
     let called : y.body.operation ≡ x.name = y.due ∙ ap (name_at d.operations) (omega arith) ∙ ap name_or there in
-    let (operation, at, fit) = found d.bodies _ o y.body (code_fits s text object h g).operations_fit y.there in
+    let (operation, at, fit) = operation_of_body d.bodies _ o y.body (code_fits s text object h g).operations_fit y.there in
     ap (ways_of_body all) y.there ∙ ap (ways_called all y.body.operation) fit.replies ∙ ap (λ w. entry_at (known_of all).ways (place_of d.operations w)) called ∙ ap (entry_at (known_of all).ways) place

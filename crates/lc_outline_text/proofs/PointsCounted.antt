@@ -3,7 +3,7 @@ use Rattle.std.proofs.Common.{◌≡◌, ℕ, ◌+◌, ◌≤◌, Bool, List, []
 use Rattle.std.specs.Prelude.{codes, slice_get}
 use Rattle.lc_sexp.specs.TreeCode.{tree_count}
 use Rattle.lc_sexp.specs.Trees.{Tree, Trees, none, ◌▸◌, item_count}
-use Rattle.lc_reading.proofs.Holding.{Holds, anything, both_holds, if_holds, weaker}
+use Rattle.lc_reading.proofs.Holding.{Holds, holds_unit, both_holds, if_holds, holds_weaker}
 use Rattle.lc_reading.specs.Readings.{Reading, wrong}
 use Rattle.lc_reading.specs.declared.pass.Pass.TheVariants.{Shape}
 use Rattle.lc_term.specs.Syntax.{Formula}
@@ -40,7 +40,7 @@ pub record IsPointOf (d : Declarations) (b : Body) (o : ℕ) (ts : Trees) (p : P
 
 pub formulas_said : (word : List ℕ) (names : Names) (n : ℕ) (t : Tree) → Holds (λ fs. length fs ≡ tree_count (parts_in word t)) (formulas_in_reading word names n t)
 formulas_said word names n t =
-    weaker _ (λ fs. length fs ≡ tree_count (parts_in word t)) (formulas_in_reading word names n t) (λ fs h. h.1)
+    holds_weaker _ (λ fs. length fs ≡ tree_count (parts_in word t)) (formulas_in_reading word names n t) (λ fs h. h.1)
     (form_holds (λ ts (fs : List Formula). length fs ≡ tree_count ts) word (λ n. each_reading (formula_reading names [])) n t (λ n m ts. each_count (formula_reading names []) m ts))
 
 abbrev IsOutlineOf : Declarations → ℕ → Tree → Trees → Outline → Type 0
@@ -77,7 +77,7 @@ parts_said d b o i n m (name ▸ code ▸ ts) =
     let r = instruction_reading names own k code in
     let w = point_name_reading d.declared (b.first + i) n m name in
     beside_said d b o name code (names_in d b) n (is_shaped r) _
-    (both_holds (λ w. Unit {0}) (IsCoded own (within_first (code ▸ none))) (IsCodeOf d b o (within_first (code ▸ none))) (point_of o) w r (anything w) (instruction_said names own k code) (λ w i u h. (refl, h)))
+    (both_holds (λ w. Unit {0}) (IsCoded own (within_first (code ▸ none))) (IsCodeOf d b o (within_first (code ▸ none))) (point_of o) w r (holds_unit w) (instruction_said names own k code) (λ w i u h. (refl, h)))
     (k + item_count code) ts
 
 -- ---- a body
@@ -92,7 +92,7 @@ ArePointsOf d b o ts ps = (1 ≤ length (some_forms_in (codes "point") ts)) × A
 points_said : (d : Declarations) (b : Body) (o n m : ℕ) (ts : Trees) → Holds (ArePointsOf d b o ts) (points_reading d.declared b (side_of d b o) o n m ts)
 points_said d b o n m none = tt
 points_said d b o n m (t ▸ ts) =
-    weaker (Along (IsForm (codes "point") (IsPointOf d b o)) (t ▸ ts)) (ArePointsOf d b o (t ▸ ts)) (points_reading d.declared b (side_of d b o) o n m (t ▸ ts)) (λ ps h. (omega arith, some_alike (codes "point") (IsPointOf d b o) (t ▸ ts) ps h))
+    holds_weaker (Along (IsForm (codes "point") (IsPointOf d b o)) (t ▸ ts)) (ArePointsOf d b o (t ▸ ts)) (points_reading d.declared b (side_of d b o) o n m (t ▸ ts)) (λ ps h. (omega arith, some_alike (codes "point") (IsPointOf d b o) (t ▸ ts) ps h))
     (placed_along (IsForm (codes "point") (IsPointOf d b o)) (point_reading d.declared b (side_of d b o) o)
     (λ i n t. form_holds (IsPointOf d b o) (codes "point") (point_parts d.declared b (side_of d b o) o i) n t (parts_said d b o i)) 0 m (t ▸ ts))
 
@@ -103,7 +103,7 @@ body_parts_said d b o n m (op ▸ locals ▸ ts) =
     let P = IsBodyOf d b o (op ▸ locals ▸ ts) in
     let r = locals_reading d.declared b m op (m + item_count op) locals in
     if_holds P (is_of_another d.declared.operations b.operation op) (wrong Shape n) _ tt
-    (both_holds (λ ws. Unit {0}) (ArePointsOf d b o ts) P body_of r (points_reading d.declared b (side_of d b o) o n (m + item_count op + item_count locals) ts) (anything r)
+    (both_holds (λ ws. Unit {0}) (ArePointsOf d b o ts) P body_of r (points_reading d.declared b (side_of d b o) o n (m + item_count op + item_count locals) ts) (holds_unit r)
     (points_said d b o n (m + item_count op + item_count locals) ts) (λ ws ps u h. h))
 
 -- ---- the bodies
@@ -115,7 +115,7 @@ IsDue d i t x = (b : Body) × (slice_get d.declared.bodies i ≡ Some b) × IsBo
 due_said : (d : Declarations) (i n : ℕ) (t : Tree) (due : Option Body) → slice_get d.declared.bodies i ≡ due → Holds (IsDue d i t) (due_reading d due i n t)
 due_said d i n t None e = tt
 due_said d i n t (Some b) e =
-    weaker _ (IsDue d i t) (body_reading d.declared b (side_of d b i) i n t) (λ x h. (b, e, h.1)) (form_holds (IsBodyOf d b i) (codes "body") (body_parts d.declared b (side_of d b i) i) n t (body_parts_said d b i))
+    holds_weaker _ (IsDue d i t) (body_reading d.declared b (side_of d b i) i n t) (λ x h. (b, e, h.1)) (form_holds (IsBodyOf d b i) (codes "body") (body_parts d.declared b (side_of d b i) i) n t (body_parts_said d b i))
 
 pub bodies_said : (d : Declarations) (n m : ℕ) (ts : Trees) → Holds (Each (IsDue d) 0 ts) (bodies_reading d n m ts)
 bodies_said d n m ts =

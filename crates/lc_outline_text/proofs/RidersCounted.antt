@@ -4,7 +4,7 @@ use Rattle.std.specs.Prelude.{codes, option_map, slice_get, nat_le, nat_lt, leng
 use Rattle.lc_base.specs.NameText.{is_name}
 use Rattle.lc_base.specs.Limits.{rider_limit}
 use Rattle.lc_sexp.specs.Trees.{Tree, Trees, atom, list, none, ◌▸◌, item_count}
-use Rattle.lc_reading.proofs.Holding.{Holds, anything, and_holds, mapped_holds, both_holds, ended_holds, limited_holds, if_holds, weaker}
+use Rattle.lc_reading.proofs.Holding.{Holds, holds_unit, and_holds, mapped_holds, both_holds, ended_holds, limited_holds, if_holds, holds_weaker}
 use Rattle.lc_reading.proofs.Words.{is-true}
 use Rattle.lc_reading.specs.Listed.{place_of}
 use Rattle.lc_reading.specs.Naming.{known, use_reading, within}
@@ -76,14 +76,14 @@ IsNamedBy ts by = (terms : List Term) × (by ≡ ByName (first_text ts) terms)
 
 name_said : (ways : Option Ways) (n : ℕ) (t : Tree) → Holds (λ w. w ≡ text_in t) (choice_use ways n t)
 name_said None n (atom w) = if_holds (λ v. v ≡ w) (is_name w) (within n w w) (wrong Shape n) (if_holds (λ v. v ≡ w) (is_long w) (wrong Bound n) (fine w) tt refl) tt
-name_said (Some ways) n (atom w) = mapped_holds (λ k. Unit {0}) (λ v. v ≡ w) (λ k. w) (use_reading ways.choices n (atom w)) (anything (use_reading ways.choices n (atom w))) (λ k u. refl)
+name_said (Some ways) n (atom w) = mapped_holds (λ k. Unit {0}) (λ v. v ≡ w) (λ k. w) (use_reading ways.choices n (atom w)) (holds_unit (use_reading ways.choices n (atom w))) (λ k u. refl)
 name_said None n (list ts) = tt
 name_said (Some ways) n (list ts) = tt
 
 choice_said : (names : Names) (ways : Option Ways) (n m : ℕ) (ts : Trees) → Holds (IsNamedBy ts) (choice_reading names ways n m ts)
 choice_said names ways n m none = tt
 choice_said names ways n m (t ▸ ts) =
-    both_holds (λ w. w ≡ text_in t) (λ xs. Unit {0}) (IsNamedBy (t ▸ ts)) ByName (choice_use ways m t) _ (name_said ways m t) (anything _) (λ w xs h u. (xs, ap (λ v. ByName v xs) h))
+    both_holds (λ w. w ≡ text_in t) (λ xs. Unit {0}) (IsNamedBy (t ▸ ts)) ByName (choice_use ways m t) _ (name_said ways m t) (holds_unit _) (λ w xs h u. (xs, ap (λ v. ByName v xs) h))
 
 -- and an operation that goes so may be marked so
 abbrev IsSaidBy : Option Ways → Trees → Chosen Term → Type 0
@@ -92,7 +92,7 @@ IsSaidBy ways ts by = IsNamedBy ts by × (is_choosing ways by ≡ true)
 by_said : (names : Names) (ways : Option Ways) (n m : ℕ) (ts : Trees) → Holds (IsSaidBy ways ts) (by_reading names ways n m ts)
 by_said names ways n m ts =
     let r = by_reading names ways n m ts in
-    weaker (λ by. IsNamedBy ts by × IsByName ways by) (IsSaidBy ways ts) r (λ by h. (h.0, h.1.1))
+    holds_weaker (λ by. IsNamedBy ts by × IsByName ways by) (IsSaidBy ways ts) r (λ by h. (h.0, h.1.1))
     (and_holds (IsNamedBy ts) (IsByName ways) r (if_holds (IsNamedBy ts) (may_go_in_order ways) (wrong Shape n) (choice_reading names ways n m ts) tt (choice_said names ways n m ts)) (by_known names ways n m ts))
 
 -- the other operation is at its place, and so is how it goes
@@ -104,7 +104,7 @@ other_said known names m t l u =
     let r = other_reading known names m t l u in
     and_holds (λ (p : Term × ℕ). place_of known.operations (text_in u) ≡ Some p.1) (IsOther known u) r
     (both_holds (λ x. Unit {0}) (λ k. place_of known.operations (text_in u) ≡ Some k) (λ (p : Term × ℕ). place_of known.operations (text_in u) ≡ Some p.1) pair (term_reading names [] m t) (use_reading known.operations l u)
-    (anything (term_reading names [] m t)) (use_said known.operations l u) (λ x k h g. g)) (other_known known names m t l u)
+    (holds_unit (term_reading names [] m t)) (use_said known.operations l u) (λ x k h g. g)) (other_known known names m t l u)
 
 -- ---- deeds
 
@@ -229,7 +229,7 @@ module _ (d : Declarations) (o : ℕ) where
       let P : Formula × Deed → Type 0 = λ p. HasWays d o (Z.deed_ways d o (items_within u)) p.1 in
       ended_holds P (m + item_count t + item_count u) ts _
       (both_holds (λ f. Unit {0}) (HasWays d o (Z.deed_ways d o (items_within u))) P pair (formula_reading (quiet names) [] m t) (deed_reading (known_of d) names (own_ways d o) (m + item_count t) u)
-      (anything (formula_reading (quiet names) [] m t)) (deed_said names (m + item_count t) u) (λ f x h g. g))
+      (holds_unit (formula_reading (quiet names) [] m t)) (deed_said names (m + item_count t) u) (λ f x h g. g))
 
   rider_said : (names : Names) (n : ℕ) (t : Tree) → Holds (HasRiderWays d o (Z.rider_ways d o (items_within t))) (rider_reading (known_of d) names (own_ways d o) n t)
   rider_said names n (atom w) = tt
@@ -271,7 +271,7 @@ call_said : (d : Known) (names : Names) (n : ℕ) (t : Tree) → Holds (λ (p : 
 call_said d names n (atom w) = tt
 call_said d names n (list none) = tt
 call_said d names n (list (t ▸ ts)) =
-    both_holds (λ a. place_of d.actions (text_in t) ≡ Some a) (λ xs. Unit {0}) (λ (p : ℕ × List Term). place_of d.actions (text_in t) ≡ Some p.0) pair (action_use d (n + 1) t) _ (action_said d (n + 1) t) (anything _) (λ a xs h u. h)
+    both_holds (λ a. place_of d.actions (text_in t) ≡ Some a) (λ xs. Unit {0}) (λ (p : ℕ × List Term). place_of d.actions (text_in t) ≡ Some p.0) pair (action_use d (n + 1) t) _ (action_said d (n + 1) t) (holds_unit _) (λ a xs h u. h)
 
 edge_text : (t : Tree) → edge_of t ≡ kind_of (text_in t)
 edge_text (atom w) = refl

@@ -4,7 +4,7 @@ use Rattle.std.specs.Prelude.{slice_get}
 use Rattle.lc_sexp.specs.Parts.{fits, form_fit}
 use Rattle.lc_sexp.specs.TreeCode.{tree_count}
 use Rattle.lc_sexp.specs.Trees.{Tree, Trees, none, ◌▸◌, item_count}
-use Rattle.lc_reading.proofs.Holding.{Holds, both_holds, weaker}
+use Rattle.lc_reading.proofs.Holding.{Holds, both_holds, holds_weaker}
 use Rattle.lc_reading.specs.Readings.{Reading, fine, flawed}
 use Rattle.lc_reading.specs.Rows.{each_reading, counted_reading, declared_reading}
 use Rattle.lc_object_text.specs.Rows.{cons, placed_reading}
@@ -75,7 +75,7 @@ any (flawed f) = tt
 
 pub each_count : {X : Type 0} (read : ℕ → Tree → Reading X) (m : ℕ) (ts : Trees) → Holds (λ xs. length xs ≡ tree_count ts) (each_reading read m ts)
 each_count read m ts =
-    weaker (Along (λ t x. Unit {0}) ts) (λ xs. length xs ≡ tree_count ts) (each_reading read m ts) (along_count (λ t x. Unit {0}) ts) (each_along (λ t x. Unit {0}) read (λ n t. any (read n t)) m ts)
+    holds_weaker (Along (λ t x. Unit {0}) ts) (λ xs. length xs ≡ tree_count ts) (each_reading read m ts) (along_count (λ t x. Unit {0}) ts) (each_along (λ t x. Unit {0}) read (λ n t. any (read n t)) m ts)
 
 pub counted_count : {X : Type 0} (read : ℕ → Tree → Reading X) (n k m : ℕ) (ts : Trees) → Holds (λ xs. length xs ≡ tree_count ts) (counted_reading read n k m ts)
 counted_count read n zero m none = refl

@@ -5,7 +5,7 @@ use Rattle.std.specs.Prelude.{codes, option_map, slice_get}
 use Rattle.lc_sexp.specs.Parts.{fits, misshapen}
 use Rattle.lc_sexp.specs.TreeCode.{tree_count}
 use Rattle.lc_sexp.specs.Trees.{Tree, Trees, atom, list, none, ◌▸◌, item_count}
-use Rattle.lc_reading.proofs.Holding.{Holds, anything, mapped_holds, both_holds, limited_holds, weaker}
+use Rattle.lc_reading.proofs.Holding.{Holds, holds_unit, mapped_holds, both_holds, limited_holds, holds_weaker}
 use Rattle.lc_reading.proofs.Places.{place_below}
 use Rattle.lc_reading.specs.Listed.{place_of}
 use Rattle.lc_reading.specs.Readings.{Reading, fine, both}
@@ -51,9 +51,9 @@ action_parts_said known i n m (t ▸ u ▸ f ▸ us) =
     let names = beside_names known.columns (Some (parameters_in u)) in
     let k = m + item_count t + item_count u in
     both_holds (λ h. Unit {0}) (λ (p : Formula × List Update). columns_stored known.columns us ≡ columns_of p.1) (λ p. IsActionOf known.columns (t ▸ u ▸ f ▸ us) (the_action p)) pair (heading_reading known i m t (m + item_count t) u)
-    (effect_reading known names k f (k + item_count f) us) (anything (heading_reading known i m t (m + item_count t) u))
+    (effect_reading known names k f (k + item_count f) us) (holds_unit (heading_reading known i m t (m + item_count t) u))
     (both_holds (λ g. Unit {0}) (λ vs. columns_stored known.columns us ≡ columns_of vs) (λ (p : Formula × List Update). columns_stored known.columns us ≡ columns_of p.1) pair (formula_reading names [] k f)
-    (each_reading (listed_update_reading known names) (k + item_count f) us) (anything (formula_reading names [] k f)) (updates_said known names (k + item_count f) us) (λ g vs h e. e))
+    (each_reading (listed_update_reading known names) (k + item_count f) us) (holds_unit (formula_reading names [] k f)) (updates_said known names (k + item_count f) us) (λ g vs h e. e))
     (λ h p u e. e)
 
 action_said : (known : Known) (i n : ℕ) (t : Tree) → Holds (IsActionOf known.columns (parts_in (codes "action") t)) (action_reading known i n t)
@@ -94,7 +94,7 @@ acted_said d actions h w a e =
 invariant_said : (d : Declarations) (n : ℕ) (t : Tree) → Holds (λ cs. length cs ≡ tree_count (parts_in (codes "invariant") t)) (invariant_reading d n t)
 invariant_said d n t =
     let read = conjunct_reading (beside_names d.declared.columns None) in
-    weaker _ (λ cs. length cs ≡ tree_count (parts_in (codes "invariant") t)) (invariant_reading d n t) (λ cs h. h.1)
+    holds_weaker _ (λ cs. length cs ≡ tree_count (parts_in (codes "invariant") t)) (invariant_reading d n t) (λ cs h. h.1)
     (form_holds (λ ts (cs : List Conjunct). length cs ≡ tree_count ts) (codes "invariant") (λ n. each_reading read) n t (λ n m ts. each_count read m ts))
 
 abbrev AreConditionsOf : Trees → List Conjunct × List Formula → Type 0
@@ -120,5 +120,5 @@ sides_said d s n =
     let Acts : List Column × List Action → Type 0 = λ p. AreActionsOf d.declared.columns (actions_in s) p.1 in
     let r = first_reading (auxiliaries_reading d) n s.auxiliaries.number s.auxiliaries.trees in
     both_holds Acts (AreConditionsOf s.invariant.trees) (AreSidesOf d s) sides_of (actions_reading d s n) (conditions_reading d n s.invariant.number s.invariant.trees)
-    (both_holds (λ cs. Unit {0}) (AreActionsOf d.declared.columns (actions_in s)) Acts pair r _ (anything r) (actions_said (known_of d) 0 (behind_first s.auxiliaries).number (behind_first s.auxiliaries).trees) (λ cs actions u h. h))
+    (both_holds (λ cs. Unit {0}) (AreActionsOf d.declared.columns (actions_in s)) Acts pair r _ (holds_unit r) (actions_said (known_of d) 0 (behind_first s.auxiliaries).number (behind_first s.auxiliaries).trees) (λ cs actions u h. h))
     (conditions_said d n s.invariant.number s.invariant.trees) (λ p q h g. record { actions = h; invariant = g.0; idle = g.1 })

@@ -5,7 +5,7 @@ use Rattle.std.specs.Prelude.{codes}
 use Rattle.lc_sexp.specs.Parts.{fits, misshapen}
 use Rattle.lc_sexp.specs.TreeCode.{tree_count}
 use Rattle.lc_sexp.specs.Trees.{Tree, Trees, atom, list, none, ◌▸◌, item_count}
-use Rattle.lc_reading.proofs.Holding.{Holds, anything, both_holds, behind_holds, each_holds, weaker}
+use Rattle.lc_reading.proofs.Holding.{Holds, holds_unit, both_holds, behind_holds, each_holds, holds_weaker}
 use Rattle.lc_reading.specs.Readings.{Reading, fine, both}
 use Rattle.lc_reading.specs.Words.{is}
 use Rattle.lc_text.specs.Terms.{pair}
@@ -39,14 +39,14 @@ section_counted : (d : Declarations) (n : ℕ) (t : Tree) → Holds (λ cs. leng
 section_counted d n t =
     let read = column_reading d.declared.columns d.declared.auxiliaries in
     let P : ℕ → Tree → Column → Type 0 = λ i t c. Unit {0} in
-    weaker _ (λ cs. length cs ≡ tree_count (parts_in (codes "aux") t)) (auxiliaries_reading d n t) (λ cs h. h.1)
+    holds_weaker _ (λ cs. length cs ≡ tree_count (parts_in (codes "aux") t)) (auxiliaries_reading d n t) (λ cs h. h.1)
     (form_holds (λ ts cs. length cs ≡ tree_count ts) (codes "aux") (λ n. placed_reading read 0) n t
-    (λ n m ts. weaker (Each P 0 ts) (λ cs. length cs ≡ tree_count ts) (placed_reading read 0 m ts) (λ cs h. each_counted P 0 ts cs h) (placed_holds P read (λ i n t. anything (read i n t)) 0 m ts)))
+    (λ n m ts. holds_weaker (Each P 0 ts) (λ cs. length cs ≡ tree_count ts) (placed_reading read 0 m ts) (λ cs h. each_counted P 0 ts cs h) (placed_holds P read (λ i n t. holds_unit (read i n t)) 0 m ts)))
 
 auxiliaries_counted : (d : Declarations) (s : Sections) (n m : ℕ) (ts : Trees) → s.auxiliaries.trees ≡ ts → Holds (λ cs. length cs ≡ length (auxiliaries_in s)) (first_reading (auxiliaries_reading d) n m ts)
 auxiliaries_counted d s n m none e = tt
 auxiliaries_counted d s n m (t ▸ ts) e =
-    weaker (λ cs. length cs ≡ tree_count (parts_in (codes "aux") t)) (λ cs. length cs ≡ length (auxiliaries_in s)) (auxiliaries_reading d m t) (λ cs h. h ∙ sym (counted_in s t ts e)) (section_counted d m t) where
+    holds_weaker (λ cs. length cs ≡ tree_count (parts_in (codes "aux") t)) (λ cs. length cs ≡ length (auxiliaries_in s)) (auxiliaries_reading d m t) (λ cs h. h ∙ sym (counted_in s t ts e)) (section_counted d m t) where
       counted_in : (s : Sections) (t : Tree) (ts : Trees) → s.auxiliaries.trees ≡ t ▸ ts → length (auxiliaries_in s) ≡ tree_count (parts_in (codes "aux") t)
       counted_in s t ts e = rw e (names_counted (parts_in (codes "aux") t))
 
@@ -85,7 +85,7 @@ is_said d n f = is_scoped (column_total (known_of d)) n f
 invariant_scoped : (d : Declarations) (n : ℕ) (t : Tree) → Holds (λ cs. list_all (is_said d 1) (formulas_of cs) ≡ true) (invariant_reading d n t)
 invariant_scoped d n t =
     let test = λ (c : Conjunct). is_said d 1 c.formula in
-    weaker (λ cs. list_all test cs ≡ true) (λ cs. list_all (is_said d 1) (formulas_of cs) ≡ true) (invariant_reading d n t) (formulas_too (is_said d 1))
+    holds_weaker (λ cs. list_all test cs ≡ true) (λ cs. list_all (is_said d 1) (formulas_of cs) ≡ true) (invariant_reading d n t) (formulas_too (is_said d 1))
     (behind_holds (λ cs. list_all test cs ≡ true) (codes "invariant") _ n t (λ n m ts. each_holds test (conjunct_reading (beside_names d.declared.columns None)) (conjunct_scoped d.declared.columns) m ts))
 
 abbrev AreConditions : Declarations → List Conjunct × List Formula → Type 0

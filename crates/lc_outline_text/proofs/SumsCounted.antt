@@ -80,8 +80,8 @@ all_stand D ps before (x ∷ rest) p e f same long =
       all_stand D ps (before ++ x ∷ []) rest (suc p) e f (same ∙ next) more,
     )
 
-pub stand : (D : Development) (ps : List (Point × Outline)) → D.object.points ≡ map (λ x. x.0) ps → D.outlines ≡ map (λ x. x.1) ps → Stand D 0 ps
-stand D ps e f = all_stand D ps [] ps 0 e f refl refl
+pub points_stand : (D : Development) (ps : List (Point × Outline)) → D.object.points ≡ map (λ x. x.0) ps → D.outlines ≡ map (λ x. x.1) ps → Stand D 0 ps
+points_stand D ps e f = all_stand D ps [] ps 0 e f refl refl
 
 pub stand_first : (D : Development) (p : ℕ) (xs ys : List (Point × Outline)) → Stand D p (xs ++ ys) → Stand D p xs
 stand_first D p [] ys h = tt
@@ -91,9 +91,9 @@ pub stand_behind : (D : Development) (p : ℕ) (xs ys : List (Point × Outline))
 stand_behind D p [] ys h = let e : p ≡ p + 0 = omega arith in subst (λ k. Stand D k ys) e h
 stand_behind D p (x ∷ xs) ys h = let e : suc p + length xs ≡ p + suc (length xs) = omega arith in subst (λ k. Stand D k ys) e (stand_behind D (suc p) xs ys h.1)
 
-pub there : (D : Development) (p : ℕ) (xs : List (Point × Outline)) (k : ℕ) (x : Point × Outline) → Stand D p xs → slice_get xs k ≡ Some x → IsThere D (p + k) x
-there D p [] k x h e = absurd (cc)
-there D p (y ∷ xs) zero x h e =
+pub point_is_there : (D : Development) (p : ℕ) (xs : List (Point × Outline)) (k : ℕ) (x : Point × Outline) → Stand D p xs → slice_get xs k ≡ Some x → IsThere D (p + k) x
+point_is_there D p [] k x h e = absurd (cc)
+point_is_there D p (y ∷ xs) zero x h e =
     let same : y ≡ x = cc in
     let at : p ≡ p + 0 = omega arith in subst (λ k. IsThere D k x) at (subst (IsThere D p) same h.0)
-there D p (y ∷ xs) (suc k) x h e = let at : suc p + k ≡ p + suc k = omega arith in subst (λ j. IsThere D j x) at (there D (suc p) xs k x h.1 e)
+point_is_there D p (y ∷ xs) (suc k) x h e = let at : suc p + k ≡ p + suc k = omega arith in subst (λ j. IsThere D j x) at (point_is_there D (suc p) xs k x h.1 e)

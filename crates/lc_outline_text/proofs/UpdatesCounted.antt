@@ -5,7 +5,7 @@ use Rattle.std.specs.Prelude.{pos, option_map, if◌then◌else◌}
 use Rattle.lc_base.specs.NameText.{is_name}
 use Rattle.lc_sexp.specs.TreeCode.{tree_count}
 use Rattle.lc_sexp.specs.Trees.{Tree, Trees, atom, list, none, ◌▸◌, item_count}
-use Rattle.lc_reading.proofs.Holding.{Holds, anything, mapped_holds, both_holds, three_holds, ended_holds, if_holds}
+use Rattle.lc_reading.proofs.Holding.{Holds, holds_unit, mapped_holds, both_holds, three_holds, ended_holds, if_holds}
 use Rattle.lc_reading.specs.Listed.{place_of}
 use Rattle.lc_reading.specs.Naming.{within, spelled_reading}
 use Rattle.lc_reading.specs.Readings.{Reading, fine, wrong, mapped, three_of}
@@ -68,7 +68,7 @@ module _ (known : Known) (names : Names) where
       let P : (ℕ × Term) × Term → Type 0 = λ p. IsColumn known.columns (text_in t) p.0.0 in
       ended_holds P (m + item_count t + item_count u + item_count v) ts _
       (three_holds (IsColumn known.columns (text_in t)) (λ x. Unit {0}) (λ x. Unit {0}) P triple (column_by_test usable m t) (term_reading names [] (m + item_count t) u) (term_reading names [] (m + item_count t + item_count u) v)
-      (column_said usable m t) (anything (term_reading names [] (m + item_count t) u)) (anything (term_reading names [] (m + item_count t + item_count u) v)) (λ k x y h u v. h))
+      (column_said usable m t) (holds_unit (term_reading names [] (m + item_count t) u)) (holds_unit (term_reading names [] (m + item_count t + item_count u) v)) (λ k x y h u v. h))
 
   pub update_said : (usable : ℕ → Bool) (n m : ℕ) (ts : Trees) → Holds (λ (u : Update). IsColumn known.columns (first_text ts) u.column) (update_by_test usable n m ts)
   update_said usable n m ts =
@@ -99,8 +99,8 @@ place_first (v ∷ own) others w k e = by_first (is w v) k (place_of own w) (pla
   by_first false k None p f e = absurd (cc)
   by_first false k (Some j) p f e = ap (option_map suc) (f j refl) ∙ e
 
-pub leads : (own others : List (List ℕ)) → Leads own (own ++ others)
-leads own others w k e = ap (λ o. listed (place_or (length (own ++ others)) o (system_place w))) (place_first own others w k e)
+pub own_names_lead : (own others : List (List ℕ)) → Leads own (own ++ others)
+own_names_lead own others w k e = ap (λ o. listed (place_or (length (own ++ others)) o (system_place w))) (place_first own others w k e)
 
 -- ---- marks
 

@@ -5,7 +5,7 @@ use Rattle.std.specs.Prelude.{codes, slice_get, sum_by}
 use Rattle.lc_sexp.specs.Parts.{fits, form_fit}
 use Rattle.lc_sexp.specs.TreeCode.{tree_count}
 use Rattle.lc_sexp.specs.Trees.{Tree, Trees, none, ◌▸◌, item_count}
-use Rattle.lc_reading.proofs.Holding.{Holds, held, anything, both_holds, ended_holds, and_holds}
+use Rattle.lc_reading.proofs.Holding.{Holds, holds_of_fine, holds_unit, both_holds, ended_holds, and_holds}
 use Rattle.lc_reading.specs.Readings.{fine}
 use Rattle.lc_text.specs.Terms.{pair}
 use Rattle.lc_term.specs.Lists.{concat_map, concat_places}
@@ -29,15 +29,15 @@ use Rattle.lc_outline_text.specs.Developments.{specification_reading, Parts, tab
 use Rattle.lc_outline_text.specs.Sides.{Sides, sides_reading}
 use Rattle.lc_outline_text.specs.Sizes.{Totals, totals_of, condition_count}
 use Rattle.lc_outline_text.proofs.ArraysCounted.{array_said}
-use Rattle.lc_outline_text.proofs.BodiesCounted.{code_in, point_asserts, ArePlaced, placed, bodies_counted}
+use Rattle.lc_outline_text.proofs.BodiesCounted.{code_in, point_asserts, ArePlaced, bodies_are_placed, bodies_counted}
 use Rattle.lc_outline_text.proofs.BranchesCounted.{IsOperationOf, own_names, AreOperationsOf, specification_said}
 use Rattle.lc_outline_text.proofs.EdgesCounted.{Meets}
 use Rattle.lc_outline_text.proofs.MarksCounted.{in_order_said, by_name_said}
 use Rattle.lc_outline_text.proofs.PointsCounted.{IsDue, bodies_said}
 use Rattle.lc_outline_text.proofs.RowsCounted.{Alike, alike_length}
 use Rattle.lc_outline_text.proofs.SidesCounted.{IsActionOf, AreSidesOf, sides_said, acted_said}
-use Rattle.lc_outline_text.proofs.SumsCounted.{over, point_edges, edges_sum, places_sum, stand}
-use Rattle.lc_outline_text.proofs.UpdatesCounted.{Leads, leads}
+use Rattle.lc_outline_text.proofs.SumsCounted.{over, point_edges, edges_sum, places_sum, points_stand}
+use Rattle.lc_outline_text.proofs.UpdatesCounted.{Leads, own_names_lead}
 
 -- ---- the specification
 
@@ -65,7 +65,7 @@ operations_said t u ts qs fit h =
     let others = columns_of_arrays (arrays_in s) ++ auxiliaries_in s in
     let all : abstracts_in s ++ others ≡ d.columns = sym (append_assoc (abstracts_in s) (columns_of_arrays (arrays_in s)) (auxiliaries_in s)) in
     let own : abstracts_in s ≡ own_names us = ap (λ ts. names_of_columns (parts_in_first (codes "abstract") ts)) abstracts in
-    let first : Leads (own_names us) d.columns = subst (λ ws. Leads ws d.columns) own (subst (Leads (abstracts_in s)) all (leads (abstracts_in s) others)) in
+    let first : Leads (own_names us) d.columns = subst (λ ws. Leads ws d.columns) own (subst (Leads (abstracts_in s)) all (own_names_lead (abstracts_in s) others)) in
     subst (λ ts. Alike (IsOperationOf d.columns) (some_forms_in (codes "op") ts) qs) (sym operations) (h d.columns first)
 
 specified : (t u : Tree) (ts : Trees) → Holds (IsSpecified (sections_of (t ▸ u ▸ ts))) (specification_reading (declarations_of (t ▸ u ▸ ts)) 0 t)
@@ -73,7 +73,7 @@ specified t u ts =
     let s = sections_of (t ▸ u ▸ ts) in
     let d = declared_in_sections s in
     both_holds (λ x. Unit {0}) (λ (q : Specification). (form_fit (codes "spec") t ≡ fits (parts_in (codes "spec") t)) × AreOperationsOf (parts_in (codes "spec") t) q.operations) (IsSpecified s) pair
-    (O.specification_reading d 0 t) (Q.specification_reading d.columns 0 t) (anything (O.specification_reading d 0 t)) (specification_said d.columns 0 t) (λ x q a h. operations_said t u ts q.operations h.0 h.1)
+    (O.specification_reading d 0 t) (Q.specification_reading d.columns 0 t) (holds_unit (O.specification_reading d 0 t)) (specification_said d.columns 0 t) (λ x q a h. operations_said t u ts q.operations h.0 h.1)
 
 -- ---- the object
 
@@ -85,7 +85,7 @@ parts_said s n =
     let d = declarations_in s in
     let HasSides : O.Tables × Sides → Type 0 = λ x. AreSidesOf d s x.1 in
     both_holds HasSides (Each (IsDue d) 0 s.bodies.trees) (ArePartsOf s) pair (tables_reading d s n) (bodies_reading d n s.bodies.number s.bodies.trees)
-    (both_holds (λ x. Unit {0}) (AreSidesOf d s) HasSides pair (O.tables_reading d.declared s n) (sides_reading d s n) (anything (O.tables_reading d.declared s n)) (sides_said d s n) (λ x y u h. h))
+    (both_holds (λ x. Unit {0}) (AreSidesOf d s) HasSides pair (O.tables_reading d.declared s n) (sides_reading d s n) (holds_unit (O.tables_reading d.declared s n)) (sides_said d s n) (λ x y u h. h))
     (bodies_said d n s.bodies.number s.bodies.trees) (λ x y h g. (h, g))
 
 -- ---- the whole
@@ -135,14 +135,14 @@ module _ (s : Sections) (p : O.SpecificationText × Specification) (o : Parts) (
   placed_all =
       let ops = operations_in s in
       let few : bodies_due (length ops) ≤ tree_count s.bodies.trees = subst (λ k. bodies_due k ≤ tree_count s.bodies.trees) (length-map ops first_text) g.0.fit.1.0 in
-      placed d (map first_text ops) (map call_of ops) 0 0 (bodies_due (length ops)) s.bodies.trees o.1 g.1.1 few (λ j. let e : 0 + j ≡ j = omega arith in ap (slice_get d.declared.bodies) e)
+      bodies_are_placed d (map first_text ops) (map call_of ops) 0 0 (bodies_due (length ops)) s.bodies.trees o.1 g.1.1 few (λ j. let e : 0 + j ≡ j = omega arith in ap (slice_get d.declared.bodies) e)
 
   sized : count (sizes_of D) ≡ condition_count d s
   sized =
       let fit = fits_declared s p o h.0 g.0 in
       let always = meets.invariant in
       let idle = meets.idle in
-      let bodies = bodies_counted d D n meets 0 0 d.declared.bodies D.object.operations s.bodies.trees o.1 fit.operations placed_all (stand D ps fit.points fit.outlines)
+      let bodies = bodies_counted d D n meets 0 0 d.declared.bodies D.object.operations s.bodies.trees o.1 fit.operations placed_all (points_stand D ps fit.points fit.outlines)
       (λ j. let e : 0 + j ≡ j = omega arith in ap (slice_get D.object.operations) e) in
       let passes : sum_by edge_count (concat_map (edge_sizes D) (edges D.object)) ≡ over (point_edges D) 0 (code_in ps) = edges_sum D 0 D.object.points ∙ ap (over (point_edges D) 0) fit.points in
       let stays : sum_by (λ m. m * (length D.actions + 2)) (concat_places (assert_sizes D) 0 D.object.points) ≡ over (point_asserts D) 0 (code_in ps) =
@@ -165,7 +165,7 @@ forms_said : (ts : Trees) → Holds (IsSized ts) (forms_reading (declarations_of
 forms_said none = tt
 forms_said (t ▸ none) =
     let r = specification_reading (declarations_of (t ▸ none)) 0 t in
-    both_holds (λ p. Unit {0}) (λ o. ⊥) (IsSized (t ▸ none)) development_of r _ (anything r) tt (λ p o h g. absurd g)
+    both_holds (λ p. Unit {0}) (λ o. ⊥) (IsSized (t ▸ none)) development_of r _ (holds_unit r) tt (λ p o h g. absurd g)
 forms_said (t ▸ u ▸ ts) =
     let s = sections_of (t ▸ u ▸ ts) in
     let r = specification_reading (declarations_of (t ▸ u ▸ ts)) 0 t in
@@ -174,4 +174,4 @@ forms_said (t ▸ u ▸ ts) =
 
 -- as many as are counted from the text
 pub forms_sized : (ts : Trees) (D : Development) → forms_reading (declarations_of ts) (sections_of ts) 0 ts ≡ fine D → count (sizes_of D) ≡ condition_count (declarations_of ts) (sections_of ts)
-forms_sized ts D e = held (IsSized ts) (forms_reading (declarations_of ts) (sections_of ts) 0 ts) D (forms_said ts) e
+forms_sized ts D e = holds_of_fine (IsSized ts) (forms_reading (declarations_of ts) (sections_of ts) 0 ts) D (forms_said ts) e

@@ -73,9 +73,9 @@ pub counts_none : (bytes : List ℕ) (i r number left : ℕ) (next w : Bool) →
 counts_none bytes i r number left next w s e h k = omega (arith, count_step bytes i r next w s e, unit_not r w h, k)
 
 -- the item of the number begins here
-pub found : (bytes : List ℕ) (i r number left : ℕ) (next w : Bool) → IsStep bytes i r next → ends_in false (take i (text_of bytes)) ≡ w → is_begun r w ≡ true
+pub numbered_item_begins : (bytes : List ℕ) (i r number left : ℕ) (next w : Bool) → IsStep bytes i r next → ends_in false (take i (text_of bytes)) ≡ w → is_begun r w ≡ true
     → items_among (lexed (take i (text_of bytes))) + left ≡ number → left ≡ 0 → Begins bytes number i
-found bytes i r number left next w s e h k z =
+numbered_item_begins bytes i r number left next w s e h k z =
     record { begins = begins_at bytes i r next w s h; apart = apart_at bytes i r next w s e h; before = omega (arith, k, z) }
 
 -- so there are more than its number

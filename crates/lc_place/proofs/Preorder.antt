@@ -144,8 +144,8 @@ joined xs ys us vs us' vs' x y e f a b n h =
     e ∙ same_front xs ys x y us' vs' a b n (ap (λ z. xs ++ z) (sym e) ∙ h ∙ ap (λ z. ys ++ z) f) ∙ sym f
 
 -- at the place of a number begin the tokens of that item
-pub stands : (bytes : List ℕ) (ts : Trees) (number : ℕ) (p : Place) → ReadsAs bytes ts → IsItem bytes number p → StandsAt bytes ts number p
-stands bytes ts number p r i =
+pub item_stands_at : (bytes : List ℕ) (ts : Trees) (number : ℕ) (p : Place) → ReadsAs bytes ts → IsItem bytes number p → StandsAt bytes ts number p
+item_stands_at bytes ts number p r i =
     let b = i.begins in
     let count : items_in bytes ≡ item_count_of_all ts = ap items_among r.tokens ∙ count_all ts in
     let lt : number < item_count_of_all ts = elim (cases_lt number (item_count_of_all ts)) [ inl less ↦ less | inr le ↦ absurd (more_items bytes number p.offset b (omega (arith, count, le))) ] in

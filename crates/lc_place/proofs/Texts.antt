@@ -38,8 +38,8 @@ pub read_all : (bytes : List ℕ) (i : ℕ) → length bytes ≤ i → (take i (
 read_all bytes i le = (take_all i (text_of bytes) (omega (arith, length-text bytes)), drop_all i (text_of bytes) (omega (arith, length-text bytes)))
 
 -- a byte that is no line feed and begins no comment is the same in the text
-pub plain : (b : ℕ) (rest : List ℕ) → b ≢ 59 → uncommented false (b ∷ rest) ≡ b ∷ uncommented false rest
-plain b rest other = by_test (b == 10) refl where
+pub uncommented_plain_byte : (b : ℕ) (rest : List ℕ) → b ≢ 59 → uncommented false (b ∷ rest) ≡ b ∷ uncommented false rest
+uncommented_plain_byte b rest other = by_test (b == 10) refl where
   by_test : (t : Bool) → (b == 10) ≡ t → uncommented false (b ∷ rest) ≡ b ∷ uncommented false rest
   by_test true e = let is : b ≡ 10 = grind (arith, nat_tests) in rw is refl
   by_test false e = let semi : (b == 59) ≡ false = grind (arith, nat_tests) in rw (e, semi) refl
@@ -74,9 +74,9 @@ commented_begins_none (b ∷ rest) = by_test (b == 10) where
   by_test false = refl
 
 -- so where one begins, the rest of the file is read by itself
-pub outside : (c : Bool) (text bytes : List ℕ) → text ≡ uncommented c bytes → begins_item text ≡ true → text_of bytes ≡ text
-outside true text bytes e h = let none = commented_begins_none bytes in absurd (cc (ap begins_item e, none, h))
-outside false text bytes e h = sym e
+pub text_outside_comment : (c : Bool) (text bytes : List ℕ) → text ≡ uncommented c bytes → begins_item text ≡ true → text_of bytes ≡ text
+text_outside_comment true text bytes e h = let none = commented_begins_none bytes in absurd (cc (ap begins_item e, none, h))
+text_outside_comment false text bytes e h = sym e
 
 -- the first byte of a file whose text begins with a list
 pub bracket_first : (b : ℕ) (rest : List ℕ) → (b == 40) ≡ true → begins_list (text_of (b ∷ rest)) ≡ true

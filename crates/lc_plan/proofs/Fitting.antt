@@ -7,7 +7,7 @@ use Rattle.lc_base.specs.Limits.{seat_limit}
 use Rattle.lc_base.specs.NameText.{is_name}
 use Rattle.lc_sexp.specs.Trees.{Tree, Trees, atom, list, none, ◌▸◌, item_count, item_count_of_all}
 use Rattle.lc_sexp.specs.Parts.{Fit, fits, misshapen, beyond, integer_fit}
-use Rattle.lc_reading.proofs.Holding.{Holds, held, anything, weaker, and_holds, mapped_holds, both_holds, ended_holds, if_holds, listed_holds, behind_holds, and_true, each_holds, counted_holds, declared_holds}
+use Rattle.lc_reading.proofs.Holding.{Holds, holds_of_fine, holds_unit, holds_weaker, and_holds, mapped_holds, both_holds, ended_holds, if_holds, listed_holds, behind_holds, and_true, each_holds, counted_holds, declared_holds}
 use Rattle.lc_reading.specs.Listed.{place_of}
 use Rattle.lc_reading.specs.Naming.{known, text_in, use_reading}
 use Rattle.lc_reading.specs.Readings.{Reading, fine, flawed, wrong, both}
@@ -68,11 +68,11 @@ use_holds names n t =
     if_holds (λ k. place_of names (text_in t) ≡ Some k) (is_name (text_in t)) (known n (text_in t) (place_of names (text_in t))) (wrong Shape n) (known_holds n (text_in t) (place_of names (text_in t))) tt
 
 numbers_holds : (count : Option ℕ) (n m : ℕ) (ts : Trees) → Holds (λ zs. (k : ℕ) → count ≡ Some k → length zs ≡ k) (numbers_reading count n m ts)
-numbers_holds None n m ts = weaker (λ zs. Unit {0}) (λ zs. (k : ℕ) → None ≡ Some k → length zs ≡ k) (numbers_reading None n m ts) (λ zs u k e. absurd (cc)) (anything (numbers_reading None n m ts))
+numbers_holds None n m ts = holds_weaker (λ zs. Unit {0}) (λ zs. (k : ℕ) → None ≡ Some k → length zs ≡ k) (numbers_reading None n m ts) (λ zs u k e. absurd (cc)) (holds_unit (numbers_reading None n m ts))
 numbers_holds (Some count) n m ts =
-    weaker (λ zs. (list_all (λ z. true) zs ≡ true) × (length zs ≡ count)) (λ zs. (k : ℕ) → Some count ≡ Some k → length zs ≡ k) (numbers_reading (Some count) n m ts)
+    holds_weaker (λ zs. (list_all (λ z. true) zs ≡ true) × (length zs ≡ count)) (λ zs. (k : ℕ) → Some count ≡ Some k → length zs ≡ k) (numbers_reading (Some count) n m ts)
     (λ zs h k e. let same : count ≡ k = cc in h.1 ∙ same)
-    (counted_holds (λ z. true) number_reading (λ i t. weaker (λ z. Unit {0}) (λ z. true ≡ true) (number_reading i t) (λ z u. refl) (anything (number_reading i t))) n count m ts)
+    (counted_holds (λ z. true) number_reading (λ i t. holds_weaker (λ z. Unit {0}) (λ z. true ≡ true) (number_reading i t) (λ z u. refl) (holds_unit (number_reading i t))) n count m ts)
 
 -- as many numbers as it takes
 taken : (os : List Operation) (op n : ℕ) (o : Operation) (zs : List ℤ) → slice_get os op ≡ Some o → ((k : ℕ) → arity_at os (Some op) ≡ Some k → length zs ≡ k) → has_call os (the_call op zs) ≡ true
@@ -84,7 +84,7 @@ call_holds : (os : List Operation) (n m : ℕ) (ts : Trees) → Holds (λ call. 
 call_holds os n m none = tt
 call_holds os n m (list us ▸ ts) =
     both_holds (λ op. ⊥) (λ zs. Unit {0}) (λ call. has_call os call ≡ true) the_call (use_reading (names_of os) m (list us)) (numbers_reading None n (m + item_count (list us)) ts)
-    tt (anything (numbers_reading None n (m + item_count (list us)) ts)) (λ op zs none u. absurd none)
+    tt (holds_unit (numbers_reading None n (m + item_count (list us)) ts)) (λ op zs none u. absurd none)
 call_holds os n m (atom w ▸ ts) =
     both_holds (λ op. place_of (names_of os) w ≡ Some op) (λ zs. (k : ℕ) → arity_at os (place_of (names_of os) w) ≡ Some k → length zs ≡ k) (λ call. has_call os call ≡ true) the_call
     (use_reading (names_of os) m (atom w)) (numbers_reading (arity_named os (atom w)) n (m + item_count (atom w)) ts)
@@ -166,4 +166,4 @@ only_holds os n m (t ▸ ts) =
 
 pub plans_fit : PlansFit
 plans_fit D bytes p (ts, reads, says) =
-    held (λ q. plan_fits D q ≡ true) (plan_reading D ts) p (only_holds D.specification.operations (item_count_of_all ts) 0 ts) says
+    holds_of_fine (λ q. plan_fits D q ≡ true) (plan_reading D ts) p (only_holds D.specification.operations (item_count_of_all ts) 0 ts) says

@@ -14,7 +14,7 @@ use Rattle.lc_text.specs.Names.{Names}
 use Rattle.lc_term.specs.Syntax.{Formula, Formulas, formulas, parts, none as no_formulas, more as more_formulas}
 use Rattle.lc_text.specs.Formulas.{formula_reading, formulas_reading}
 use Rattle.lc_text.specs.Terms.{pair}
-use Rattle.lc_reading.proofs.Fine.{IfFine, anything, weaker, cond_fine, mapped_fine, both_fine, ended_fine, behind_fine, of_fine}
+use Rattle.lc_reading.proofs.Fine.{IfFine, if_fine_unit, if_fine_weaker, cond_fine, mapped_fine, both_fine, ended_fine, behind_fine, of_fine}
 use Rattle.lc_text.proofs.Variables.{NamesIn, FormulaIn, FormulasIn, formula_in, formulas_in, each_in}
 use Rattle.lc_proof_text.specs.FileNames.{Declared, names_behind, declared_by, claim_names, proof_names}
 use Rattle.lc_proof_text.specs.Files.{Claim, claim_of, only, declarations_reading, hypotheses_reading, goal_reading, shown_reading, statement_reading, claim_reading, sections_reading, form_reading, file_reading}
@@ -63,7 +63,7 @@ headed_sized : (names : Names) (n m k : ℕ) (ts : Trees) (o : Option Head) (pro
     → IfFine (headed_reading names n m ts o proofs) (λ p. size p ≤ k + 1)
 headed_sized names n m k ts None proofs h = tt
 headed_sized names n m k ts (Some head) proofs h =
-    both_fine (λ s. Unit {0}) (λ ps. size_of_all ps ≤ k) (λ p. size p ≤ k + 1) proof (step_reading names head n m ts) (proofs head) (anything (step_reading names head n m ts)) (h head)
+    both_fine (λ s. Unit {0}) (λ ps. size_of_all ps ≤ k) (λ p. size p ≤ k + 1) proof (step_reading names head n m ts) (proofs head) (if_fine_unit (step_reading names head n m ts)) (h head)
     (λ s ps a b. omega (arith, b))
 
 ended_sized : (n k : ℕ) (b : Bool) → IfFine (cond b (fine S.none) (wrong Shape n)) (λ ps. size_of_all ps ≤ k)
@@ -84,8 +84,8 @@ mutual
   proof_sized names n (list (list us ▸ ts)) = tt
   proof_sized names n (list (atom w ▸ ts)) =
       cond_fine (λ p. size p ≤ item_count (list (atom w ▸ ts))) (is w (codes "sum")) _ _
-      (mapped_fine (λ ms. Unit {0}) (λ p. size p ≤ item_count (list (atom w ▸ ts))) (λ ms. proof (S.Sum ms) S.none) (multiples_reading (n + 2) ts) (anything (multiples_reading (n + 2) ts)) (λ ms a. omega arith))
-      (weaker (λ p. size p ≤ item_count_of_all ts + 1) (λ p. size p ≤ item_count (list (atom w ▸ ts)))
+      (mapped_fine (λ ms. Unit {0}) (λ p. size p ≤ item_count (list (atom w ▸ ts))) (λ ms. proof (S.Sum ms) S.none) (multiples_reading (n + 2) ts) (if_fine_unit (multiples_reading (n + 2) ts)) (λ ms a. omega arith))
+      (if_fine_weaker (λ p. size p ≤ item_count_of_all ts + 1) (λ p. size p ≤ item_count (list (atom w ▸ ts)))
       (headed_reading names n (n + 2) ts (head_of w) (λ h. proofs_reading names n (own_parts h) (proofs_due h) (n + 2) ts)) (λ p a. omega (arith, a))
       (headed_sized names n (n + 2) (item_count_of_all ts) ts (head_of w) (λ h. proofs_reading names n (own_parts h) (proofs_due h) (n + 2) ts)
       (λ h. proofs_sized names n (own_parts h) (proofs_due h) (n + 2) ts)))
@@ -93,7 +93,7 @@ mutual
   proofs_sized : (names : Names) (n k : ℕ) (due : Due) (m : ℕ) (ts : Trees) → IfFine (proofs_reading names n k due m ts) (λ ps. size_of_all ps ≤ item_count_of_all ts)
   proofs_sized names n (suc k) due m none = omega arith
   proofs_sized names n (suc k) due m (t ▸ ts) =
-      weaker (λ ps. size_of_all ps ≤ item_count_of_all ts) (λ ps. size_of_all ps ≤ item_count_of_all (t ▸ ts)) (proofs_reading names n k due (m + item_count t) ts) (λ ps a. omega (arith, a))
+      if_fine_weaker (λ ps. size_of_all ps ≤ item_count_of_all ts) (λ ps. size_of_all ps ≤ item_count_of_all (t ▸ ts)) (proofs_reading names n k due (m + item_count t) ts) (λ ps a. omega (arith, a))
       (proofs_sized names n k due (m + item_count t) ts)
   proofs_sized names n zero due m none = ended_sized n 0 (is_met due)
   proofs_sized names n zero due m (t ▸ ts) =
@@ -120,7 +120,7 @@ shown_sized d n t =
     let read = proof_reading (proof_names d) in
     behind_fine (λ p. size p ≤ item_count t) (codes "proof") (only read) n t
     (λ m ts few. only_fine (λ p. size p ≤ item_count t) read n m ts
-    (λ m u fewer. weaker (λ p. size p ≤ item_count u) (λ p. size p ≤ item_count t) (read m u) (λ p a. omega (arith, a, few, fewer)) (proof_sized (proof_names d) m u)))
+    (λ m u fewer. if_fine_weaker (λ p. size p ≤ item_count u) (λ p. size p ≤ item_count t) (read m u) (λ p a. omega (arith, a, few, fewer)) (proof_sized (proof_names d) m u)))
 
 -- what holds of a claim that is read
 pub record IsFounded (claim : Claim) (items : ℕ) : Type 0 where
@@ -153,7 +153,7 @@ sections_founded n m (v ▸ c ▸ h ▸ g ▸ p ▸ ts) =
     let few : length (names_behind (codes "vars") v) + item_count p ≤ items = omega (arith, behind_fewer (codes "vars") v) in
     ended_fine (λ c. IsFounded c items) (at_p + item_count p) ts _
     (both_fine (λ u. Unit {0}) (λ c. IsFounded c items) (λ c. IsFounded c items) (λ x y. y) (declarations_reading m v at_c c) (claim_reading (declared_by v c) at_h h at_g g at_p p)
-    (anything (declarations_reading m v at_c c)) (claim_founded (declared_by v c) at_h h at_g g at_p p items few) (λ x y a b. b))
+    (if_fine_unit (declarations_reading m v at_c c)) (claim_founded (declared_by v c) at_h h at_g g at_p p items few) (λ x y a b. b))
 
 more_items : (c : Claim) (i j : ℕ) → i ≤ j → IsFounded c i → IsFounded c j
 more_items c i j few h = record { hypotheses = h.hypotheses; goal = h.goal; room = omega (arith, h.room, few) }
@@ -161,16 +161,16 @@ more_items c i j few h = record { hypotheses = h.hypotheses; goal = h.goal; room
 form_founded : (n : ℕ) (t : Tree) → IfFine (form_reading n t) (λ c. IsFounded c (item_count t))
 form_founded n t =
     behind_fine (λ c. IsFounded c (item_count t)) (codes "formula") sections_reading n t
-    (λ m ts few. weaker (λ c. IsFounded c (item_count_of_all ts)) (λ c. IsFounded c (item_count t)) (sections_reading n m ts)
+    (λ m ts few. if_fine_weaker (λ c. IsFounded c (item_count_of_all ts)) (λ c. IsFounded c (item_count t)) (sections_reading n m ts)
     (λ c a. more_items c (item_count_of_all ts) (item_count t) (omega (arith, few)) a) (sections_founded n m ts))
 
 file_founded : (ts : Trees) → IfFine (file_reading ts) (λ c. IsFounded c (item_count_of_all ts))
 file_founded ts =
     only_fine (λ c. IsFounded c (item_count_of_all ts)) form_reading (item_count_of_all ts) 0 ts
-    (λ m t few. weaker (λ c. IsFounded c (item_count t)) (λ c. IsFounded c (item_count_of_all ts)) (form_reading m t) (λ c a. more_items c (item_count t) (item_count_of_all ts) few a) (form_founded m t))
+    (λ m t few. if_fine_weaker (λ c. IsFounded c (item_count t)) (λ c. IsFounded c (item_count_of_all ts)) (form_reading m t) (λ c a. more_items c (item_count t) (item_count_of_all ts) few a) (form_founded m t))
 
-pub founded : (ts : Trees) (claim : Claim) → file_reading ts ≡ fine claim → IsFounded claim (item_count_of_all ts)
-founded ts claim e = of_fine (λ c. IsFounded c (item_count_of_all ts)) (file_reading ts) claim (file_founded ts) e
+pub fine_claim_founded : (ts : Trees) (claim : Claim) → file_reading ts ≡ fine claim → IsFounded claim (item_count_of_all ts)
+fine_claim_founded ts claim e = of_fine (λ c. IsFounded c (item_count_of_all ts)) (file_reading ts) claim (file_founded ts) e
 
 formulas_parts : (fs : Formulas) → formulas (parts fs) ≡ fs
 formulas_parts no_formulas = refl

@@ -53,9 +53,9 @@ are_within-last es (j ∷ ks) k h low =
     ap (λ b. b && are_within es (ks ++ k ∷ [])) p.0 ∙ are_within-last es ks k p.1 low
 
 -- one name more, by the number of its entry, and its first place
-pub entered : (old new : List (Bor (List ℕ) × ℕ)) (ks : List ℕ) (k : ℕ) (name w : List ℕ) → names_at new ks ≡ names_at old ks → name_at new k ≡ name
+pub place_of_entered : (old new : List (Bor (List ℕ) × ℕ)) (ks : List ℕ) (k : ℕ) (name w : List ℕ) → names_at new ks ≡ names_at old ks → name_at new k ≡ name
     → option_or (place_of (names_at old ks) w) (cond (is w name) (Some (length ks)) None) ≡ place_of (names_at new (ks ++ k ∷ [])) w
-entered old new ks k name w kept named =
+place_of_entered old new ks k name w kept named =
     ap (λ n. option_or (place_of (names_at old ks) w) (cond (is w name) (Some n) None)) (sym (length-map ks (name_at old)))
     ∙ sym (place_of_last (names_at old ks) name w)
     ∙ ap (λ ns. place_of ns w) (sym (names_at-last new ks k ∙ ap (λ ns. ns ++ name_at new k ∷ []) kept ∙ ap (λ n. names_at old ks ++ n ∷ []) named))
@@ -71,7 +71,7 @@ found_name es n k h =
     name_at-key es k n p.0 ∙ sym (is-true n.now _ p.1)
 
 -- what is found has the name that was sought
-pub found : {E : Type 0} (es : List (Bor (List ℕ) × ℕ)) (n : Bor (List ℕ)) (k : ℕ) (r : Result ℕ E) → position (λ (m : Bor (List ℕ)). is n.now m.now) (keys_of es) ≡ Some k
+pub name_at_found : {E : Type 0} (es : List (Bor (List ℕ) × ℕ)) (n : Bor (List ℕ)) (k : ℕ) (r : Result ℕ E) → position (λ (m : Bor (List ℕ)). is n.now m.now) (keys_of es) ≡ Some k
     → IfOk r (λ i. i ≡ k) → IfOk r (λ i. name_at es i ≡ n.now)
-found es n k (Ok i) h same = ap (name_at es) same ∙ found_name es n k h
-found es n k (Err fault) h same = same
+name_at_found es n k (Ok i) h same = ap (name_at es) same ∙ found_name es n k h
+name_at_found es n k (Err fault) h same = same

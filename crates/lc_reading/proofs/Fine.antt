@@ -9,13 +9,13 @@ abbrev pub IfFine : {X : Type 0} → Reading X → (X → Type 0) → Type 0
 IfFine (fine x) P = P x
 IfFine (flawed f) P = Unit {0}
 
-pub anything : {X : Type 0} (r : Reading X) → IfFine r (λ x. Unit {0})
-anything (fine x) = tt
-anything (flawed f) = tt
+pub if_fine_unit : {X : Type 0} (r : Reading X) → IfFine r (λ x. Unit {0})
+if_fine_unit (fine x) = tt
+if_fine_unit (flawed f) = tt
 
-pub weaker : {X : Type 0} (P Q : X → Type 0) (r : Reading X) → ((x : X) → P x → Q x) → IfFine r P → IfFine r Q
-weaker P Q (fine x) f h = f x h
-weaker P Q (flawed g) f h = tt
+pub if_fine_weaker : {X : Type 0} (P Q : X → Type 0) (r : Reading X) → ((x : X) → P x → Q x) → IfFine r P → IfFine r Q
+if_fine_weaker P Q (fine x) f h = f x h
+if_fine_weaker P Q (flawed g) f h = tt
 
 pub cond_fine : {X : Type 0} (P : X → Type 0) (b : Bool) (r s : Reading X) → IfFine r P → IfFine s P → IfFine (cond b r s) P
 cond_fine P true r s h g = h

@@ -11,17 +11,17 @@ abbrev pub Holds : {X : Type 0} → (X → Type 0) → Reading X → Type 0
 Holds P (fine x) = P x
 Holds P (flawed f) = Unit {0}
 
-pub held : {X : Type 0} (P : X → Type 0) (r : Reading X) (x : X) → Holds P r → r ≡ fine x → P x
-held P (fine y) x h e = let same : y ≡ x = cc in subst P same h
-held P (flawed f) x h e = absurd (cc)
+pub holds_of_fine : {X : Type 0} (P : X → Type 0) (r : Reading X) (x : X) → Holds P r → r ≡ fine x → P x
+holds_of_fine P (fine y) x h e = let same : y ≡ x = cc in subst P same h
+holds_of_fine P (flawed f) x h e = absurd (cc)
 
-pub anything : {X : Type 0} (r : Reading X) → Holds (λ x. Unit {0}) r
-anything (fine x) = tt
-anything (flawed f) = tt
+pub holds_unit : {X : Type 0} (r : Reading X) → Holds (λ x. Unit {0}) r
+holds_unit (fine x) = tt
+holds_unit (flawed f) = tt
 
-pub weaker : {X : Type 0} (P Q : X → Type 0) (r : Reading X) → ((x : X) → P x → Q x) → Holds P r → Holds Q r
-weaker P Q (fine x) f h = f x h
-weaker P Q (flawed e) f h = tt
+pub holds_weaker : {X : Type 0} (P Q : X → Type 0) (r : Reading X) → ((x : X) → P x → Q x) → Holds P r → Holds Q r
+holds_weaker P Q (fine x) f h = f x h
+holds_weaker P Q (flawed e) f h = tt
 
 pub and_holds : {X : Type 0} (P Q : X → Type 0) (r : Reading X) → Holds P r → Holds Q r → Holds (λ x. P x × Q x) r
 and_holds P Q (fine x) h g = (h, g)

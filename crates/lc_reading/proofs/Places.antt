@@ -16,9 +16,9 @@ pub lookup_last : {K X : Type 0} (test : K → Bool) (es : List (K × X)) (k : K
 lookup_last test [] k x = refl
 lookup_last test (e ∷ es) k x = ap (cond (test e.0) (Some e.1)) (lookup_last test es k x) ∙ first_of_two (test e.0) (test k) e.1 x (lookup test es)
 
-pub absent : {X : Type 0} (o : Option X) → is_some o ≡ false → o ≡ None
-absent None h = refl
-absent (Some x) h = cc
+pub option_without_some : {X : Type 0} (o : Option X) → is_some o ≡ false → o ≡ None
+option_without_some None h = refl
+option_without_some (Some x) h = cc
 
 later : (here there : Bool) (p : Option ℕ) (n : ℕ) → cond here (Some 0) (option_map suc (option_or p (cond there (Some n) None))) ≡ option_or (cond here (Some 0) (option_map suc p)) (cond there (Some (suc n)) None)
 later true there p n = refl

@@ -19,8 +19,8 @@ not_both true = refl
 not_both false = refl
 
 -- words of different lengths are not the same
-pub unlike : (w c : List ℕ) → length w ≢ length c → is w c ≡ false
-unlike [] [] h = absurd (h refl)
-unlike [] (y ∷ c) h = refl
-unlike (x ∷ w) [] h = refl
-unlike (x ∷ w) (y ∷ c) h = ap (λ b. nat_eq x y && b) (unlike w c (λ e. h (omega (arith, e)))) ∙ not_both (nat_eq x y)
+pub is_other_length : (w c : List ℕ) → length w ≢ length c → is w c ≡ false
+is_other_length [] [] h = absurd (h refl)
+is_other_length [] (y ∷ c) h = refl
+is_other_length (x ∷ w) [] h = refl
+is_other_length (x ∷ w) (y ∷ c) h = ap (λ b. nat_eq x y && b) (is_other_length w c (λ e. h (omega (arith, e)))) ∙ not_both (nat_eq x y)

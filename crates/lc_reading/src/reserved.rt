@@ -4,7 +4,7 @@ ghost use Rattle.lc_reading.specs.Reserved.{is_client_name, is_call_column, is_r
 
 /// Whether this is the name of a column of a client's call, of its replies or of its note, which each object has. The length
 /// is looked at first, so that most names are compared with few texts or with none.
-#[tactic(auto, using(crate::proofs::Words::unlike), unfolding(crate::specs::Reserved::is_call_column, crate::specs::Reserved::is_reply_column, crate::specs::Reserved::is_note_column))]
+#[tactic(auto, using(crate::proofs::Words::is_other_length), unfolding(crate::specs::Reserved::is_call_column, crate::specs::Reserved::is_reply_column, crate::specs::Reserved::is_note_column))]
 pub fn is_system_column(name: &str) -> bool
     ensures { result ≡ is_system_column name.now }
 {
@@ -20,7 +20,7 @@ pub fn is_system_column(name: &str) -> bool
 }
 
 /// Whether no file may declare this name: `self`, `N`, the system columns and the built-in actions.
-#[tactic(auto, using(crate::proofs::Words::unlike), unfolding(crate::specs::Reserved::is_client_name, crate::specs::Reserved::is_call_column, crate::specs::Reserved::is_reply_column, crate::specs::Reserved::is_note_column, crate::specs::Reserved::is_action_name))]
+#[tactic(auto, using(crate::proofs::Words::is_other_length), unfolding(crate::specs::Reserved::is_client_name, crate::specs::Reserved::is_call_column, crate::specs::Reserved::is_reply_column, crate::specs::Reserved::is_note_column, crate::specs::Reserved::is_action_name))]
 pub fn is_reserved(name: &str) -> bool
     ensures { result ≡ is_reserved name.now }
 {

@@ -39,10 +39,10 @@ says-less all fits Overflow f h = λ a. h (f a)
 says-less all fits OutOfMemory f h = tt
 
 -- a fault that is handed on, of what is reached first
-pub faulted : (all fits : Type 0) (wanted : Option Ridden) (before after : List Mark) (m : State) (r : Result Bool SeqFault) (fault : SeqFault) →
+pub fault_is_ridden : (all fits : Type 0) (wanted : Option Ridden) (before after : List Mark) (m : State) (r : Result Bool SeqFault) (fault : SeqFault) →
     IsErrAnd r (λ y. y ≡ fault) → (all → fits) → seq_says fault fits → IsRidden all wanted before after m r
-faulted all fits wanted before after m (Ok x) fault e first says = absurd e
-faulted all fits wanted before after m (Err y) fault e first says = subst (λ z. seq_says z all) (sym e) (says-less all fits fault first says)
+fault_is_ridden all fits wanted before after m (Ok x) fault e first says = absurd e
+fault_is_ridden all fits wanted before after m (Err y) fault e first says = subst (λ z. seq_says z all) (sym e) (says-less all fits fault first says)
 
 -- ---- the call that takes effect or is noted, in columns that are a state's
 
@@ -61,7 +61,7 @@ module _ (call : Call) (s m : State) (at : s ≡ m) (pick : Pick) where
       IsRidden (TakenFits (operations_of call.operations.now) (first_of call.system) m call.client call.operation.0 (choice_of pick)) wanted before before m r
   untaken wanted before r fault e known =
       let fits : State → Type 0 = λ z. TakenFits (operations_of call.operations.now) (first_of call.system) z call.client call.operation.0 (choice_of pick) in
-      faulted (fits m) (fits m) wanted before before m r fault e (λ h. h) (subst (λ z. seq_says fault (fits z)) at known)
+      fault_is_ridden (fits m) (fits m) wanted before before m r fault e (λ h. h) (subst (λ z. seq_says fault (fits z)) at known)
 
   pub not-settled : (before : List Mark) (found : Option Outcome) → found ≡ None → Takes s (Ok found) → Settles call m (choice_of pick) before before m (Ok false)
   not-settled before found is known =

@@ -21,7 +21,7 @@ use Rattle.lc_ride.specs.RideView.{IsRidden, marks_of}
 use Rattle.lc_ride.specs.declared.marks.Mark.{Mark}
 use Rattle.lc_ride.specs.declared.riding.Rides.{Rides}
 use Rattle.lc_ride.specs.declared.settling.Call.{Call}
-use Rattle.lc_ride.proofs.Deeding.{faulted, says-less}
+use Rattle.lc_ride.proofs.Deeding.{fault_is_ridden, says-less}
 
 under : (F D : Type 0) (b : Bool) (w x : Option Ridden) (before after : List Mark) (m' : State) (r : Result Bool SeqFault) → b ≡ true → F →
     IsRidden D w before after m' r → IsRidden (F × MatchBool b D (Unit {0})) (cond b w x) before after m' r
@@ -47,7 +47,7 @@ module _ (rides : Rides) (s m : State) (at : s ≡ m) (k : Marking) (by : Chosen
   not-picked before r fault e says =
       let ops = operations_of rides.operations.now in
       let first = first_of rides.system in
-      faulted (DeedFits ops first rides.client rides.operation.0 (env_of rides.env.now) m (Marks k by)) (TermsFit m (env_of rides.env.now) (given_in by)) (do_deed ops first rides.client rides.operation.0 (env_of rides.env.now) m (Marks k by))
+      fault_is_ridden (DeedFits ops first rides.client rides.operation.0 (env_of rides.env.now) m (Marks k by)) (TermsFit m (env_of rides.env.now) (given_in by)) (do_deed ops first rides.client rides.operation.0 (env_of rides.env.now) m (Marks k by))
       before before m r fault e (λ t. t.0) (subst (λ z. seq_says fault (TermsFit z (env_of rides.env.now) (given_in by))) at says)
 
   pub picked : (choice : Choice) → TermsFit s (env_of rides.env.now) (given_in by) × (choice ≡ choice_at s (env_of rides.env.now) by) → (before after : List Mark) (end : State) (r : Result Bool SeqFault) →

@@ -123,8 +123,8 @@ module _ (s : State) (e : Env) where
     paths_apart n o τ [] p = (tt, tt)
     paths_apart n o τ (r ∷ rs) p = all_apart (paths operations first (suc n) o τ rs) (rider_paths operations first n o τ r p) (λ x. paths_apart (suc n) o τ rs x) (λ x. paths_behind (suc n) o τ rs x) (where_apart r.condition n o τ r.deed p)
 
-pub exclude : PathsExclude
-exclude operations first n o τ rs q s e = paths_apart s e operations first n o τ rs q
+pub paths_exclude : PathsExclude
+paths_exclude operations first n o τ rs q s e = paths_apart s e operations first n o τ rs q
 
 -- each element of a list is in it
 each_in : {A : Type 0} (xs : List A) → Every (λ x. IsIn x xs) xs

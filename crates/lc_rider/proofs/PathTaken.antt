@@ -361,6 +361,6 @@ module _ (ops : List Operation) (first : ℕ) (grounds : (p : ℕ) → AreGround
           let rest = ride (suc j) rs at.0 y h.1 lawful one.only at.1.1 in
           (one.marks ++ rest.0, (S at.0, one.marks, rest.0, one.is, rest.1, refl))
 
-pub taken : PathsAreTaken
-taken ops first n self o τ rs q s e p grounds leave own mine only among facts met =
+pub paths_are_taken : PathsAreTaken
+paths_are_taken ops first n self o τ rs q s e p grounds leave own mine only among facts met =
     ride ops first grounds s e τ leave self o mine n rs q p own (facts, met) only among

@@ -14,7 +14,7 @@ use Rattle.lc_table.specs.Tables.{term_in, column_in, IsTerm, IsColumn, HasColum
 use Rattle.lc_table.specs.declared.node.ColExprId.{ColExprId}
 use Rattle.lc_table.specs.declared.node.TermId.{TermId}
 use Rattle.lc_table.proofs.ByNumber.{are_columns_later}
-use Rattle.lc_table.proofs.Entries.{IsAbsent, same}
+use Rattle.lc_table.proofs.Entries.{IsAbsent, eq_true_same}
 use Rattle.lc_table.proofs.Later.{column_is, term_still}
 use Rattle.lc_table.proofs.NodeReplacement.{column_still}
 use Rattle.lc_action.proofs.Columns.{put_in_place, put_behind}
@@ -31,7 +31,7 @@ number_of p = p.0.0
 -- its first entry
 pub first_here : (ps : List Entry) (k c : ℕ) (d : Entry) → k < length ps → ((get_or ps k d).0.0 == c) ≡ true → HasNone c (take k ps) → IsFirst c ps k
 first_here ps k c d h at none = record {
-  there = slice_get-map (λ (q : Entry). q.0.0) ps k ∙ ap (option_map (λ (q : Entry). q.0.0)) (slice_get-get_or ps k d h) ∙ ap Some (same (get_or ps k d).0.0 c at);
+  there = slice_get-map (λ (q : Entry). q.0.0) ps k ∙ ap (option_map (λ (q : Entry). q.0.0)) (slice_get-get_or ps k d h) ∙ ap Some (eq_true_same (get_or ps k d).0.0 c at);
   before = none;
 }
 

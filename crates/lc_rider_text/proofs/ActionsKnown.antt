@@ -13,7 +13,7 @@ use Rattle.lc_object_text.specs.Declaring.{kth_name_reading}
 use Rattle.lc_object_text.specs.ObjectNames.{items_within, later, within_first}
 use Rattle.lc_object_text.specs.Sections.{parts_in, parts_of_fit}
 use Rattle.lc_outline.specs.Scope.{is_scoped, action_is_scoped}
-use Rattle.lc_reading.proofs.Holding.{Holds, anything, weaker, and_holds, mapped_holds, both_holds, limited_holds, if_holds, listed_holds, each_holds, declared_counts, and_true}
+use Rattle.lc_reading.proofs.Holding.{Holds, holds_unit, holds_weaker, and_holds, mapped_holds, both_holds, limited_holds, if_holds, listed_holds, each_holds, declared_counts, and_true}
 use Rattle.lc_reading.specs.Listed.{declared_by}
 use Rattle.lc_reading.specs.Naming.{within, declaration_reading, name_reading}
 use Rattle.lc_reading.specs.Readings.{fine, wrong, mapped}
@@ -39,7 +39,7 @@ names_counted : (before : List (List ℕ)) (m : ℕ) (ts : Trees) → Holds (λ 
 names_counted before m none = refl
 names_counted before m (t ▸ ts) =
     both_holds (λ w. Unit {0}) (λ ws. length ws ≡ tree_count ts) (λ ws. length ws ≡ tree_count (t ▸ ts)) (λ w ws. w ∷ ws) (name_reading (Some parameter_limit) before m t) _
-    (anything (name_reading (Some parameter_limit) before m t)) (names_counted (before ++ declared_by t) (m + item_count t) ts) (λ w ws h g. ap suc g)
+    (holds_unit (name_reading (Some parameter_limit) before m t)) (names_counted (before ++ declared_by t) (m + item_count t) ts) (λ w ws h g. ap suc g)
 
 -- and no more than there may be
 room : (n : ℕ) → nat_le 3 n ≡ false → n < 3
@@ -81,7 +81,7 @@ few_at_most ws h = let all = h (omega arith) in three_at_most (length ws) (omega
 
 -- and as many as its list declares
 one_name : (before : List (List ℕ)) (n : ℕ) (t : Tree) → Holds (λ w. length (declared_by t) ≡ 1) (name_reading (Some parameter_limit) before n t)
-one_name before n (atom w) = weaker (λ v. Unit {0}) (λ v. length (declared_by (atom w)) ≡ 1) (name_reading (Some parameter_limit) before n (atom w)) (λ v h. refl) (anything (name_reading (Some parameter_limit) before n (atom w)))
+one_name before n (atom w) = holds_weaker (λ v. Unit {0}) (λ v. length (declared_by (atom w)) ≡ 1) (name_reading (Some parameter_limit) before n (atom w)) (λ v h. refl) (holds_unit (name_reading (Some parameter_limit) before n (atom w)))
 one_name before n (list ts) = tt
 
 abbrev AreParameters : Tree → List (List ℕ) → Type 0
@@ -93,9 +93,9 @@ parameters_counted n (list ts) =
     let names = declared_reading (name_reading (Some parameter_limit)) declared_by [] (n + 1) ts in
     let Few : List (List ℕ) → Type 0 = λ ws. nat_le (length ws) 3 ≡ true in
     let AreDeclared : List (List ℕ) → Type 0 = λ ws. length ws ≡ length (all_declared declared_by ts) in
-    weaker (λ ws. (length ws ≡ tree_count ts) × (Few ws × AreDeclared ws)) (AreParameters (list ts)) names (λ ws h. (h.0, h.1.0, h.1.1))
+    holds_weaker (λ ws. (length ws ≡ tree_count ts) × (Few ws × AreDeclared ws)) (AreParameters (list ts)) names (λ ws h. (h.0, h.1.0, h.1.1))
     (and_holds (λ ws. length ws ≡ tree_count ts) (λ ws. Few ws × AreDeclared ws) names (names_counted [] (n + 1) ts)
-    (and_holds Few AreDeclared names (weaker (AreFew []) Few names few_at_most (names_few [] (n + 1) ts)) (declared_counts (name_reading (Some parameter_limit)) declared_by one_name [] (n + 1) ts)))
+    (and_holds Few AreDeclared names (holds_weaker (AreFew []) Few names few_at_most (names_few [] (n + 1) ts)) (declared_counts (name_reading (Some parameter_limit)) declared_by one_name [] (n + 1) ts)))
 
 -- an action has three parameters at most, and uses only what is in scope
 abbrev pub has_bounds : Known → Action → Bool
@@ -128,7 +128,7 @@ parts_made d i n m (t ▸ u ▸ none) = tt
 parts_made d i n m (t ▸ u ▸ f ▸ us) =
     both_holds (λ (p : List ℕ × List (List ℕ)). AreParameters u p.1) (IsEffect d (variable_total (Some (parameters_in u)))) (IsMade d (t ▸ u ▸ f ▸ us)) pair _ _
     (both_holds (λ w. Unit {0}) (AreParameters u) (λ (p : List ℕ × List (List ℕ)). AreParameters u p.1) pair _ _
-    (anything (kth_name_reading d.actions i m t)) (parameters_counted (m + item_count t) u) (λ w ws h g. g))
+    (holds_unit (kth_name_reading d.actions i m t)) (parameters_counted (m + item_count t) u) (λ w ws h g. g))
     (effect_scoped d u (m + item_count t + item_count u) f (m + item_count t + item_count u + item_count f) us)
     (λ p q h g.
     let same : variable_total (Some (parameters_in u)) ≡ 2 + length p.1 = omega (arith, h.2) in

@@ -10,7 +10,7 @@ use Rattle.lc_object.specs.declared.instr.EdgeKind.{EdgeKind}
 use Rattle.lc_object_text.specs.Rows.{cons}
 use Rattle.lc_outline.specs.Development.{On}
 use Rattle.lc_outline.specs.Scope.{is_scoped, deed_is_scoped, rider_is_scoped, on_is_scoped}
-use Rattle.lc_reading.proofs.Holding.{Holds, anything, weaker, mapped_holds, both_holds, three_holds, ended_holds, limited_holds, if_holds, listed_holds, behind_holds, each_holds, counted_holds, and_true}
+use Rattle.lc_reading.proofs.Holding.{Holds, holds_unit, holds_weaker, mapped_holds, both_holds, three_holds, ended_holds, limited_holds, if_holds, listed_holds, behind_holds, each_holds, counted_holds, and_true}
 use Rattle.lc_reading.specs.Naming.{within, name_reading, use_reading}
 use Rattle.lc_reading.specs.Readings.{fine, wrong}
 use Rattle.lc_reading.specs.Words.{is, is_long}
@@ -96,7 +96,7 @@ conjunct_scoped columns n t =
       parts n m (t ▸ none) = tt
       parts n m (t ▸ u ▸ ts) =
           ended_holds P _ ts _
-          (both_holds (λ w. Unit {0}) (λ f. is_scoped (column_count (length columns)) 1 f ≡ true) P pair (name_reading None [] m t) _ (anything (name_reading None [] m t))
+          (both_holds (λ w. Unit {0}) (λ f. is_scoped (column_count (length columns)) 1 f ≡ true) P pair (name_reading None [] m t) _ (holds_unit (name_reading None [] m t))
           (formula_scoped (column_count (length columns)) 1 (beside_names columns None) (beside_in_scope columns None) (m + item_count t) u) (λ w f h g. g))
 
 -- ---- riders
@@ -123,7 +123,7 @@ module _ (d : Known) (others : Option (List (List ℕ))) where
   arguments_known : (due : Option ℕ) (n m : ℕ) (ts : Trees) → Holds AreKnown (arguments_reading names due n m ts)
   arguments_known None n m ts = each_holds term_is_known (term_reading names []) (term_known columns count names all) m ts
   arguments_known (Some c) n m ts =
-      weaker (λ (args : List Term). AreKnown args × (length args ≡ c)) AreKnown (arguments_reading names (Some c) n m ts) (λ args h. h.0)
+      holds_weaker (λ (args : List Term). AreKnown args × (length args ≡ c)) AreKnown (arguments_reading names (Some c) n m ts) (λ args h. h.0)
       (counted_holds term_is_known (term_reading names []) (term_known columns count names all) n c m ts)
 
   -- the terms of a choice
@@ -137,7 +137,7 @@ module _ (d : Known) (others : Option (List (List ℕ))) where
   by_known ways n m none = if_holds AreGivenKnown (may_go_in_order ways) (wrong Shape n) (wrong Shape n) tt tt
   by_known ways n m (t ▸ ts) =
       if_holds AreGivenKnown (may_go_in_order ways) (wrong Shape n) _ tt
-      (both_holds (λ w. Unit {0}) AreKnown AreGivenKnown ByName (choice_use ways m t) _ (anything (choice_use ways m t)) (arguments_known (terms_due ways t) n (m + item_count t) ts) (λ w args h g. g))
+      (both_holds (λ w. Unit {0}) AreKnown AreGivenKnown ByName (choice_use ways m t) _ (holds_unit (choice_use ways m t)) (arguments_known (terms_due ways t) n (m + item_count t) ts) (λ w args h g. g))
 
   abbrev IsDeed : Deed → Type 0
   IsDeed x = deed_is_scoped columns count x ≡ true
@@ -148,7 +148,7 @@ module _ (d : Known) (others : Option (List (List ℕ))) where
 
   client_known : (m : ℕ) (t : Tree) (l : ℕ) (u : Tree) → Holds IsClientKnown (other_reading d names m t l u)
   client_known m t l u =
-      both_holds (λ x. term_is_known x ≡ true) (λ k. Unit {0}) IsClientKnown pair _ (use_reading d.operations l u) (term_known columns count names all m t) (anything (use_reading d.operations l u)) (λ x k h g. h)
+      both_holds (λ x. term_is_known x ≡ true) (λ k. Unit {0}) IsClientKnown pair _ (use_reading d.operations l u) (term_known columns count names all m t) (holds_unit (use_reading d.operations l u)) (λ x k h g. h)
 
   other_scoped : (p : Term × ℕ) (by : Chosen Term) → IsClientKnown p → AreGivenKnown by → IsDeed (mark_of_other p by)
   other_scoped p by h g = and_true (term_is_known p.0) (list_all term_is_known (given_in by)) h g
@@ -216,12 +216,12 @@ module _ (d : Known) (others : Option (List (List ℕ))) where
   call_known n m none = tt
   call_known n m (t ▸ ts) =
       both_holds (λ a. Unit {0}) AreKnown (λ (p : ℕ × List Term). AreKnown p.1) pair (action_use d m t) (arguments_reading names (arguments_due d t) n (m + item_count t) ts)
-      (anything (action_use d m t)) (arguments_known (arguments_due d t) n (m + item_count t) ts) (λ a args h g. g)
+      (holds_unit (action_use d m t)) (arguments_known (arguments_due d t) n (m + item_count t) ts) (λ a args h g. g)
 
   step_known : (m : ℕ) (t : Tree) (n : ℕ) (u : Tree) → Holds (λ (p : EdgeKind × (ℕ × List Term)). AreKnown p.1.1) (step_reading d names m t n u)
   step_known m t n u =
       both_holds (λ e. Unit {0}) (λ (p : ℕ × List Term). AreKnown p.1) (λ (p : EdgeKind × (ℕ × List Term)). AreKnown p.1.1) pair (edge_reading m t) _
-      (anything (edge_reading m t)) (listed_holds (λ (p : ℕ × List Term). AreKnown p.1) (call_parts_reading d names) n u call_known) (λ e p h g. g)
+      (holds_unit (edge_reading m t)) (listed_holds (λ (p : ℕ × List Term). AreKnown p.1) (call_parts_reading d names) n u call_known) (λ e p h g. g)
 
   abbrev IsOn : On → Type 0
   IsOn x = on_is_scoped columns count x ≡ true

@@ -7,7 +7,7 @@ use Rattle.std.specs.Prelude.{slice_get}
 use Rattle.lc_base.specs.NameText.{is_name}
 use Rattle.lc_sexp.specs.Trees.{Trees, atom, list, none, ◌▸◌, item_count}
 use Rattle.lc_outline.specs.Resolved.{has_some}
-use Rattle.lc_reading.proofs.Holding.{Holds, anything, weaker, mapped_holds, both_holds, if_holds, counted_holds}
+use Rattle.lc_reading.proofs.Holding.{Holds, holds_unit, holds_weaker, mapped_holds, both_holds, if_holds, counted_holds}
 use Rattle.lc_reading.proofs.Places.{place_below}
 use Rattle.lc_reading.specs.Listed.{place_of}
 use Rattle.lc_reading.specs.Naming.{known, use_reading}
@@ -43,7 +43,7 @@ use_placed ws n w = if_holds (λ a. place_of ws w ≡ Some a) (is_name w) _ (wro
 pub arguments_counted : (names : Names) (due : Option ℕ) (n m : ℕ) (ts : Trees) → Holds (λ (args : List Term). (k : ℕ) → due ≡ Some k → length args ≡ k) (arguments_reading names due n m ts)
 arguments_counted names None n m ts = all_hold (λ (args : List Term). (k : ℕ) → None ≡ Some k → length args ≡ k) _ (λ args k e. absurd (cc))
 arguments_counted names (Some c) n m ts =
-    weaker (λ (args : List Term). (list_all (λ t. true) args ≡ true) × (length args ≡ c)) (λ (args : List Term). (k : ℕ) → Some c ≡ Some k → length args ≡ k) _
+    holds_weaker (λ (args : List Term). (list_all (λ t. true) args ≡ true) × (length args ≡ c)) (λ (args : List Term). (k : ℕ) → Some c ≡ Some k → length args ≡ k) _
     (λ args h k e. let same : c ≡ k = cc in let counted : length args ≡ c = h.1 in cc)
     (counted_holds (λ t. true) (term_reading names []) (λ n t. all_hold (λ x. true ≡ true) _ (λ x. refl)) n c m ts)
 
@@ -90,8 +90,8 @@ IsNamed ways w v = (v ≡ w) × ((j : ℕ) × (place_of ways.choices w ≡ Some 
 choice_known : (names : Names) (ways : Option Ways) (n m : ℕ) (ts : Trees) → Holds (IsByName ways) (choice_reading names ways n m ts)
 choice_known names ways n m none = tt
 choice_known names None n m (t ▸ ts) =
-    both_holds (λ w. Unit {0}) (λ args. Unit {0}) (IsByName None) ByName (choice_use None m t) _ (anything (choice_use None m t))
-    (anything (arguments_reading names None n (m + item_count t) ts)) (λ w args h g. (refl, refl))
+    both_holds (λ w. Unit {0}) (λ args. Unit {0}) (IsByName None) ByName (choice_use None m t) _ (holds_unit (choice_use None m t))
+    (holds_unit (arguments_reading names None n (m + item_count t) ts)) (λ w args h g. (refl, refl))
 choice_known names (Some ways) n m (atom w ▸ ts) =
     both_holds (IsNamed ways w) (λ (args : List Term). (k : ℕ) → entry_at ways.parameters (place_of ways.choices w) ≡ Some k → length args ≡ k) (IsByName (Some ways)) ByName
     (choice_use (Some ways) m (atom w)) _
@@ -100,7 +100,7 @@ choice_known names (Some ways) n m (atom w ▸ ts) =
     (λ v args (e, (j, at)) g.
     (refl, ap (is_choice_at ways (length args)) (ap (place_of ways.choices) e ∙ at) ∙ met (slice_get ways.parameters j) (length args) (λ k due. g k (ap (entry_at ways.parameters) at ∙ due))))
 choice_known names (Some ways) n m (list us ▸ ts) =
-    both_holds (λ v. ⊥) (λ args. Unit {0}) (IsByName (Some ways)) ByName (wrong Shape m) _ tt (anything (arguments_reading names None n (m + item_count (list us)) ts)) (λ v args h g. absurd h)
+    both_holds (λ v. ⊥) (λ args. Unit {0}) (IsByName (Some ways)) ByName (wrong Shape m) _ tt (holds_unit (arguments_reading names None n (m + item_count (list us)) ts)) (λ v args h g. absurd h)
 
 pub by_known : (names : Names) (ways : Option Ways) (n m : ℕ) (ts : Trees) → Holds (IsByName ways) (by_reading names ways n m ts)
 by_known names ways n m ts = if_holds (IsByName ways) (may_go_in_order ways) (wrong Shape n) _ tt (choice_known names ways n m ts)

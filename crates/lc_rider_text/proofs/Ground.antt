@@ -2,7 +2,7 @@
 use Rattle.std.proofs.Common.{◌≡◌, ℕ, true, [], Option, Some, None, IfSome, refl}
 use Rattle.lc_sexp.specs.Trees.{Tree}
 use Rattle.lc_reading.specs.Readings.{fine}
-use Rattle.lc_reading.proofs.Holding.{Holds, held, and_true}
+use Rattle.lc_reading.proofs.Holding.{Holds, holds_of_fine, and_true}
 use Rattle.lc_term.specs.Syntax.{Formula}
 use Rattle.lc_term.specs.Truth.{is_ground, are_ground}
 use Rattle.lc_text.specs.Formulas.{formula_reading}
@@ -47,4 +47,4 @@ pub quiet_holds : (names : Names) (n : ℕ) (t : Tree) → Holds (λ f. is_groun
 quiet_holds names n t = formula_holds (quiet names) (λ t. Unit {0}) (λ c. Unit {0}) (λ f. is_ground f ≡ true) (λ fs. are_ground fs ≡ true) (kept names) n t
 
 pub quiet_ground : (names : Names) (n : ℕ) (t : Tree) (f : Formula) → formula_reading (quiet names) [] n t ≡ fine f → is_ground f ≡ true
-quiet_ground names n t f e = held (λ f. is_ground f ≡ true) (formula_reading (quiet names) [] n t) f (quiet_holds names n t) e
+quiet_ground names n t f e = holds_of_fine (λ f. is_ground f ≡ true) (formula_reading (quiet names) [] n t) f (quiet_holds names n t) e

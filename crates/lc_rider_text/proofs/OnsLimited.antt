@@ -6,7 +6,7 @@ use Rattle.lc_base.specs.Limits.{path_limit, rider_limit}
 use Rattle.lc_sexp.specs.Trees.{Tree, Trees, none, ◌▸◌, item_count}
 use Rattle.lc_outline.specs.Development.{On}
 use Rattle.lc_outline.specs.Limits.{path_total}
-use Rattle.lc_reading.proofs.Holding.{Holds, anything, weaker, and_holds, both_holds, if_holds, limited_holds, behind_holds}
+use Rattle.lc_reading.proofs.Holding.{Holds, holds_unit, holds_weaker, and_holds, both_holds, if_holds, limited_holds, behind_holds}
 use Rattle.lc_reading.specs.Readings.{Reading, fine, flawed, wrong, limited, both}
 use Rattle.lc_reading.specs.declared.pass.Pass.TheVariants.{Shape}
 use Rattle.lc_rider.specs.Rider.{Rider}
@@ -32,7 +32,7 @@ IsPlaced i t r = i < rider_limit
 
 few_riders : (d : Known) (names : Names) (own : Option Ways) (m : ℕ) (ts : Trees) → Holds (λ rs. length rs ≤ rider_limit) (riders_reading d names own m ts)
 few_riders d names own m ts =
-    weaker (Each IsPlaced 0 ts) (λ rs. length rs ≤ rider_limit) (riders_reading d names own m ts) (λ rs h. omega (arith, each_few IsPlaced rider_limit (λ i t r below. below) 0 ts rs (omega arith) h))
+    holds_weaker (Each IsPlaced 0 ts) (λ rs. length rs ≤ rider_limit) (riders_reading d names own m ts) (λ rs h. omega (arith, each_few IsPlaced rider_limit (λ i t r below. below) 0 ts rs (omega arith) h))
     (placed_holds IsPlaced (ith_rider_reading d names own) (λ i n t. limited_below 6 i n (rider_reading d names own n t)) 0 m ts)
 
 -- ---- paths
@@ -60,7 +60,7 @@ paths_few d operations own o w names edges n m (t ▸ u ▸ ts) =
     let riders = riders_reading d names own (m + item_count t + item_count u) ts in
     if_holds P (is_refused edges (edge_of t)) (wrong Shape n) _ tt
     (within_limit P (nat_lt path_limit (path_count d own ts)) n (both the_on step riders)
-    (λ few. both_holds (λ p. Unit {0}) (λ rs. path_total operations o rs ≡ path_count d own ts) P the_on step riders (anything step) (row_counted d operations own o w names 0 (m + item_count t + item_count u) ts)
+    (λ few. both_holds (λ p. Unit {0}) (λ rs. path_total operations o rs ≡ path_count d own ts) P the_on step riders (holds_unit step) (row_counted d operations own o w names 0 (m + item_count t + item_count u) ts)
     (λ p rs h g. subst (λ k. k ≤ path_limit) (sym g) (few_of (path_count d own ts) path_limit few))))
 
 riders_few : (d : Known) (names : Names) (own : Option Ways) (edges : Edges) (n m : ℕ) (ts : Trees) → Holds (λ (x : On). length x.riders ≤ rider_limit) (on_parts_reading d names own edges n m ts)
@@ -72,7 +72,7 @@ riders_few d names own edges n m (t ▸ u ▸ ts) =
     let riders = riders_reading d names own (m + item_count t + item_count u) ts in
     if_holds P (is_refused edges (edge_of t)) (wrong Shape n) _ tt
     (limited_holds P (nat_lt path_limit (path_count d own ts)) n (both the_on step riders)
-    (both_holds (λ p. Unit {0}) (λ rs. length rs ≤ rider_limit) P the_on step riders (anything step) (few_riders d names own (m + item_count t + item_count u) ts) (λ p rs h g. g)))
+    (both_holds (λ p. Unit {0}) (λ rs. length rs ≤ rider_limit) P the_on step riders (holds_unit step) (few_riders d names own (m + item_count t + item_count u) ts) (λ p rs h g. g)))
 
 -- ---- what is at an edge
 

@@ -2,7 +2,7 @@
 use Rattle.std.proofs.Common.{◌≡◌, ℕ, ◌+◌, ◌*◌, Bool, true, false, cond, List, [], Option, Some, None, refl, sym, ap, ap₂, ◌∙◌, subst}
 use Rattle.std.specs.Prelude.{codes, slice_get}
 use Rattle.lc_sexp.specs.Trees.{Tree, Trees, atom, list, none, ◌▸◌, item_count}
-use Rattle.lc_reading.proofs.Holding.{Holds, held, anything, mapped_holds, both_holds, ended_holds, limited_holds}
+use Rattle.lc_reading.proofs.Holding.{Holds, holds_of_fine, holds_unit, mapped_holds, both_holds, ended_holds, limited_holds}
 use Rattle.lc_reading.specs.Readings.{mapped}
 use Rattle.lc_reading.specs.Words.{is}
 use Rattle.lc_outline.proofs.PathTotal.{paths_total}
@@ -70,7 +70,7 @@ pub record IsWithin (d : Known) (operations : List Operation) (own : Option Ways
 headed_counted : (d : Known) (operations : List Operation) (own : Option Ways) (o : ℕ) → IsWithin d operations own o → (names : Names) (h : Head) (n m : ℕ) (ts : Trees)
     → Holds (IsCounted operations o (ways_with d own ts (Some h))) (headed_reading d names own h n m ts)
 headed_counted d operations own o w names H.Set n m ts =
-    mapped_holds (λ u. Unit {0}) (IsCounted operations o 1) Assign _ (anything (update_reading InAuxiliary d names n m ts)) (λ u h. refl)
+    mapped_holds (λ u. Unit {0}) (IsCounted operations o 1) Assign _ (holds_unit (update_reading InAuxiliary d names n m ts)) (λ u h. refl)
 headed_counted d operations own o w names H.Lin n m ts =
     ended_holds (IsCounted operations o (mark_ways own)) m ts _
     (mapped_holds (IsInOrder own) (IsCounted operations o (mark_ways own)) (Marks Own) _ (in_order_known own n) (in_order_counted own (op_branches operations o) w.itself))
@@ -104,7 +104,7 @@ when_counted d operations own o w names n m (t ▸ u ▸ ts) =
     let ways = deed_ways d own u in
     ended_holds (λ (p : Formula × Deed). 1 + D.deed_ways operations o p.1 ≡ 1 + ways) _ ts _
     (both_holds (λ f. Unit {0}) (IsCounted operations o ways) (λ (p : Formula × Deed). 1 + D.deed_ways operations o p.1 ≡ 1 + ways) pair _ _
-    (anything (formula_reading (quiet names) [] m t)) (read_deed_counted d operations own o w names (m + item_count t) u) (λ f x h g. ap (λ k. 1 + k) g))
+    (holds_unit (formula_reading (quiet names) [] m t)) (read_deed_counted d operations own o w names (m + item_count t) u) (λ f x h g. ap (λ k. 1 + k) g))
 
 rider_counted : (d : Known) (operations : List Operation) (own : Option Ways) (o : ℕ) → IsWithin d operations own o → (names : Names) (n : ℕ) (t : Tree)
     → Holds (λ r. D.rider_ways operations o r ≡ rider_ways d own t) (rider_reading d names own n t)
@@ -134,5 +134,5 @@ pub riders_counted : PathsAreCounted
 riders_counted d operations agree o below names m ts riders read first n variables p =
     let own = slice_get d.ways o in
     paths_total operations first n o variables riders p
-    ∙ held (λ rs. path_total operations o rs ≡ path_count d own ts) (riders_reading d names own m ts) riders
+    ∙ holds_of_fine (λ rs. path_total operations o rs ≡ path_count d own ts) (riders_reading d names own m ts) riders
     (row_counted d operations own o (record { others = agree; itself = agree o below }) names 0 m ts) read

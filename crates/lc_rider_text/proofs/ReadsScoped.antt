@@ -8,7 +8,7 @@ use Rattle.lc_sexp.specs.Parts.{Fit, fits, beyond, misshapen, integer_fit}
 use Rattle.lc_sexp.specs.Trees.{Tree, Trees, atom, list, none, ◌▸◌, item_count}
 use Rattle.lc_outline.proofs.Scoped.{scoped_term}
 use Rattle.lc_outline.specs.Scope.{scope, is_scoped}
-use Rattle.lc_reading.proofs.Holding.{Holds, anything, weaker, mapped_holds, both_holds, ended_holds, if_holds, and_true}
+use Rattle.lc_reading.proofs.Holding.{Holds, holds_unit, holds_weaker, mapped_holds, both_holds, ended_holds, if_holds, and_true}
 use Rattle.lc_reading.proofs.Places.{place_below}
 use Rattle.lc_reading.specs.Listed.{place_of}
 use Rattle.lc_reading.specs.Readings.{Reading, fine, wrong}
@@ -133,7 +133,7 @@ module _ (columns variables : ℕ) (names : Names) (all : AreInScope columns var
     product_in bound d n m (t ▸ none) long = tt
     product_in bound d n m (t ▸ u ▸ ts) long =
         ended_holds (λ (p : ℤ × Term). IsTerm d p.1) _ ts _
-        (both_holds (λ (z : ℤ). Unit {0}) (IsTerm d) (λ (p : ℤ × Term). IsTerm d p.1) pair _ _ (anything (number_reading m t)) (term_in bound d (m + item_count t) u long) (λ x y h g. g))
+        (both_holds (λ (z : ℤ). Unit {0}) (IsTerm d) (λ (p : ℤ × Term). IsTerm d p.1) pair _ _ (holds_unit (number_reading m t)) (term_in bound d (m + item_count t) u long) (λ x y h g. g))
 
     access_in : (bound : List (List ℕ)) (d n m : ℕ) (ts : Trees) → length bound ≡ d → Holds (λ p. IsColumn d p.0 × IsTerm d p.1) (access_reading names bound n m ts)
     access_in bound d n m none long = tt
@@ -186,11 +186,11 @@ module _ (columns variables : ℕ) (names : Names) (all : AreInScope columns var
     body_in bound d n m (t ▸ none) long = tt
     body_in bound d n m (atom w ▸ u ▸ ts) long =
         ended_holds (IsFormula (suc d)) _ ts _
-        (both_holds (λ x. Unit {0}) (IsFormula (suc d)) (IsFormula (suc d)) body_of (binder_reading m (atom w)) _ (anything (binder_reading m (atom w)))
+        (both_holds (λ x. Unit {0}) (IsFormula (suc d)) (IsFormula (suc d)) body_of (binder_reading m (atom w)) _ (holds_unit (binder_reading m (atom w)))
         (formula_in (bound ++ w ∷ []) (suc d) (m + item_count (atom w)) u (omega (arith, long, length-append bound (w ∷ [])))) (λ x f h g. g))
     body_in bound d n m (list us ▸ u ▸ ts) long =
         ended_holds (IsFormula (suc d)) _ ts _
-        (both_holds (λ x. ⊥) (λ f. Unit {0}) (IsFormula (suc d)) body_of (wrong Shape m) (formula_reading names bound (m + item_count (list us)) u) tt (anything (formula_reading names bound (m + item_count (list us)) u)) (λ x f h g. absurd h))
+        (both_holds (λ x. ⊥) (λ f. Unit {0}) (IsFormula (suc d)) body_of (wrong Shape m) (formula_reading names bound (m + item_count (list us)) u) tt (holds_unit (formula_reading names bound (m + item_count (list us)) u)) (λ x f h g. absurd h))
 
     formulas_in : (bound : List (List ℕ)) (d m : ℕ) (ts : Trees) → length bound ≡ d → Holds (AreFormulas d) (formulas_reading names bound m ts)
     formulas_in bound d m none long = refl
@@ -201,7 +201,7 @@ module _ (columns variables : ℕ) (names : Names) (all : AreInScope columns var
   -- ---- below no quantifier
 
   pub term_known : (n : ℕ) (t : Tree) → Holds (λ t. term_passes (known columns variables) t ≡ true) (term_reading names [] n t)
-  term_known n t = weaker (IsTerm 0) (λ t. term_passes (known columns variables) t ≡ true) (term_reading names [] n t) (scoped_term columns variables) (term_in [] 0 n t refl)
+  term_known n t = holds_weaker (IsTerm 0) (λ t. term_passes (known columns variables) t ≡ true) (term_reading names [] n t) (scoped_term columns variables) (term_in [] 0 n t refl)
 
   pub formula_scoped : (n : ℕ) (t : Tree) → Holds (λ f. is_scoped columns variables f ≡ true) (formula_reading names [] n t)
   formula_scoped n t = formula_in [] 0 n t refl

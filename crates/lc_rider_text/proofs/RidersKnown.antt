@@ -9,7 +9,7 @@ use Rattle.lc_sexp.specs.Trees.{Tree, Trees, atom, list, none, ◌▸◌, item_c
 use Rattle.lc_object.specs.declared.instr.EdgeKind.{EdgeKind}
 use Rattle.lc_outline.specs.Development.{On}
 use Rattle.lc_outline.specs.Resolved.{condition_is_resolved, has_some}
-use Rattle.lc_reading.proofs.Holding.{Holds, anything, mapped_holds, both_holds, three_holds, ended_holds, limited_holds, if_holds, listed_holds, behind_holds, and_true}
+use Rattle.lc_reading.proofs.Holding.{Holds, holds_unit, mapped_holds, both_holds, three_holds, ended_holds, limited_holds, if_holds, listed_holds, behind_holds, and_true}
 use Rattle.lc_reading.specs.Listed.{place_of}
 use Rattle.lc_reading.specs.Naming.{within, use_reading}
 use Rattle.lc_reading.specs.Readings.{Reading, fine, wrong, both}
@@ -71,7 +71,7 @@ update_open stores d names n m (t ▸ u ▸ v ▸ ts) =
     mapped_holds (λ (p : (ℕ × Term) × Term). is_open stores d p.0.0 ≡ true) (λ (u : Update). is_open stores d u.column ≡ true) the_update _
     (ended_holds (λ (p : (ℕ × Term) × Term). is_open stores d p.0.0 ≡ true) _ ts _
     (three_holds (λ k. is_open stores d k ≡ true) (λ t. Unit {0}) (λ t. Unit {0}) (λ (p : (ℕ × Term) × Term). is_open stores d p.0.0 ≡ true) triple _ _ _
-    (column_open stores d m t) (anything (term_reading names [] (m + item_count t) u)) (anything (term_reading names [] (m + item_count t + item_count u) v)) (λ x y z h g i. h)))
+    (column_open stores d m t) (holds_unit (term_reading names [] (m + item_count t) u)) (holds_unit (term_reading names [] (m + item_count t + item_count u) v)) (λ x y z h g i. h)))
     (λ p h. h)
 
 -- ---- riders
@@ -101,9 +101,9 @@ IsOther d u p = (p.1 < length d.operations) × (ways_named d u ≡ slice_get d.w
 pub other_known : (d : Known) (names : Names) (m : ℕ) (t : Tree) (l : ℕ) (u : Tree) → Holds (IsOther d u) (other_reading d names m t l u)
 other_known d names m t l (atom w) =
     both_holds (λ x. Unit {0}) (λ k. place_of d.operations w ≡ Some k) (IsOther d (atom w)) pair _ (use_reading d.operations l (atom w))
-    (anything (term_reading names [] m t)) (use_placed d.operations l w) (λ x k h e. (place_below d.operations w k e, ap (entry_at d.ways) e))
+    (holds_unit (term_reading names [] m t)) (use_placed d.operations l w) (λ x k h e. (place_below d.operations w k e, ap (entry_at d.ways) e))
 other_known d names m t l (list us) =
-    both_holds (λ x. Unit {0}) (λ k. ⊥) (IsOther d (list us)) pair _ (use_reading d.operations l (list us)) (anything (term_reading names [] m t)) tt (λ x k h e. absurd e)
+    both_holds (λ x. Unit {0}) (λ k. ⊥) (IsOther d (list us)) pair _ (use_reading d.operations l (list us)) (holds_unit (term_reading names [] m t)) tt (λ x k h e. absurd e)
 
 other_chosen : (d : Known) (own : Option Ways) (u : Tree) (p : Term × ℕ) (by : Chosen Term) → IsOther d u p → is_choosing (ways_named d u) by ≡ true → deed_is_known d own (mark_of_other p by) ≡ true
 other_chosen d own u p by h e = and_true (nat_lt p.1 (length d.operations)) _ (below_test p.1 (length d.operations) h.0) (subst (λ o. is_choosing o by ≡ true) h.1 e)
@@ -190,7 +190,7 @@ call_known : (d : Known) (names : Names) (n i k : ℕ) (w : List ℕ) (ts : Tree
     (arguments_reading names (cond b None (entry_at d.parameters (place_of d.actions w))) n k ts))
 call_known d names n i k w ts true =
     both_holds (λ a. ⊥) (λ args. Unit {0}) (λ (p : ℕ × List Term). IsCallKnown d p.0 p.1) pair (wrong Shape i) (arguments_reading names None n k ts) tt
-    (anything (arguments_reading names None n k ts)) (λ a args h g. absurd h)
+    (holds_unit (arguments_reading names None n k ts)) (λ a args h g. absurd h)
 call_known d names n i k w ts false =
     both_holds (λ a. place_of d.actions w ≡ Some a) (λ (args : List Term). (k : ℕ) → entry_at d.parameters (place_of d.actions w) ≡ Some k → length args ≡ k)
     (λ (p : ℕ × List Term). IsCallKnown d p.0 p.1) pair _ _
@@ -203,12 +203,12 @@ calls_known d names n m none = tt
 calls_known d names n m (atom w ▸ ts) = call_known d names n m (m + 1) w ts (is_action_name w)
 calls_known d names n m (list us ▸ ts) =
     both_holds (λ a. ⊥) (λ args. Unit {0}) (λ (p : ℕ × List Term). IsCallKnown d p.0 p.1) pair (wrong Shape m) _ tt
-    (anything (arguments_reading names None n (m + item_count (list us)) ts)) (λ a args h g. absurd h)
+    (holds_unit (arguments_reading names None n (m + item_count (list us)) ts)) (λ a args h g. absurd h)
 
 step_known : (d : Known) (names : Names) (m : ℕ) (t : Tree) (n : ℕ) (u : Tree) → Holds (λ (p : EdgeKind × (ℕ × List Term)). IsCallKnown d p.1.0 p.1.1) (step_reading d names m t n u)
 step_known d names m t n u =
     both_holds (λ e. Unit {0}) (λ (p : ℕ × List Term). IsCallKnown d p.0 p.1) (λ (p : EdgeKind × (ℕ × List Term)). IsCallKnown d p.1.0 p.1.1) pair _ _
-    (anything (edge_reading m t)) (listed_holds (λ (p : ℕ × List Term). IsCallKnown d p.0 p.1) (call_parts_reading d names) n u (calls_known d names)) (λ e p h g. g)
+    (holds_unit (edge_reading m t)) (listed_holds (λ (p : ℕ × List Term). IsCallKnown d p.0 p.1) (call_parts_reading d names) n u (calls_known d names)) (λ e p h g. g)
 
 parts_known : (d : Known) (names : Names) (own : Option Ways) (edges : Edges) (n m : ℕ) (ts : Trees) → Holds (IsOnKnown d own) (on_parts_reading d names own edges n m ts)
 parts_known d names own edges n m none = tt

@@ -13,7 +13,7 @@ use Rattle.lc_hist.specs.WellFormed.{IsWellFormed}
 use Rattle.lc_machine.specs.World.{World}
 use Rattle.lc_outline.specs.Development.{Development}
 use Rattle.lc_outline.specs.Resolved.{IsResolved}
-use Rattle.lc_outline.proofs.Resolving.{resolved}
+use Rattle.lc_outline.proofs.Resolving.{passed_is_resolved}
 use Rattle.lc_sound.specs.Claims.{OrdersLinearize}
 use Rattle.lc_sound.specs.Instrumented.{Label, IsRun, history}
 use Rattle.lc_sound.specs.Order.{order}
@@ -23,7 +23,7 @@ use Rattle.lc_run.specs.Locked.{development_held, clients_held, labels_held, wor
 use Rattle.lc_run.specs.Ordering.{has_client, is_small}
 use Rattle.lc_run.specs.declared.held.Shared.{Shared}
 use Rattle.lc_run.specs.declared.label.Label as code
-use Rattle.lc_run.proofs.Together.{gathered}
+use Rattle.lc_run.proofs.Together.{sum_of_lengths}
 use Rattle.lc_run.proofs.Turns.{held-well-formed, held-clients, held-small, held-linearizes}
 
 module _ {J : Type 0} (s : Shared J) where
@@ -31,7 +31,7 @@ module _ {J : Type 0} (s : Shared J) where
   few = let h = s.parts in omega arith
 
   is-resolved : IsResolved (development_held s)
-  is-resolved = resolved (development_held s) s.accepted.value.development.resolved
+  is-resolved = passed_is_resolved (development_held s) s.accepted.value.development.resolved
 
   pub in-turn : IsWellFormed (history (labels_held s))
   in-turn = held-well-formed (development_held s) (clients_held s) (labels_held s) (world_held s) few s.run
@@ -59,4 +59,4 @@ module _ {J : Type 0} (s : Shared J) where
   pub all-gathered : (lists : List (Vec code.Label Global)) → length lists ≡ clients_held s → AreOwn (labels_held s) (clients_held s) lists → sum (map length (lists_in lists)) ≡ length (labels_held s)
   all-gathered lists count own =
       let n = length-map lists (λ (v : Vec code.Label Global). labels_of v.items) ∙ count in
-      gathered (lists_in lists) (labels_held s) (subst (λ k. list_all (has_client k) (labels_held s) ≡ true) (sym n) clients-are) (λ c h. own c (subst (λ k. c < k) n h))
+      sum_of_lengths (lists_in lists) (labels_held s) (subst (λ k. list_all (has_client k) (labels_held s) ≡ true) (sym n) clients-are) (λ c h. own c (subst (λ k. c < k) n h))

@@ -29,14 +29,14 @@ not-past : (w : World) (c : ℕ) (k : W.Client) → IsClient w c k → length w.
 not-past w c k is le = let h = slice_get_within w.clients c k is in omega arith
 
 -- a client in a call has no other fault than that a number leaves 64 bits, and `OutOfMemory`
-pub untold : (D : Development) (w : World) (c : ℕ) (columns : State) (fault : StepFault) → IsInCall w c → IsAdvanced D w c columns (Err fault) → IsUntold D w c (fault_as fault)
-untold D w c columns step.NoClient (p, vs, is) h = not-past w c (W.In p vs) is h
-untold D w c columns step.Idle (p, vs, is) h = absurd (let same : W.In p vs ≡ W.Idle = same_Some (W.In p vs) W.Idle (sym is ∙ h) in cc)
-untold D w c columns step.Overflow there h = h
-untold D w c columns step.OutOfMemory there h = h
-untold D w c columns step.Busy there h = h
-untold D w c columns step.NoOp there h = h
-untold D w c columns step.Arity there h = h
+pub fault_is_untold : (D : Development) (w : World) (c : ℕ) (columns : State) (fault : StepFault) → IsInCall w c → IsAdvanced D w c columns (Err fault) → IsUntold D w c (fault_as fault)
+fault_is_untold D w c columns step.NoClient (p, vs, is) h = not-past w c (W.In p vs) is h
+fault_is_untold D w c columns step.Idle (p, vs, is) h = absurd (let same : W.In p vs ≡ W.Idle = same_Some (W.In p vs) W.Idle (sym is ∙ h) in cc)
+fault_is_untold D w c columns step.Overflow there h = h
+fault_is_untold D w c columns step.OutOfMemory there h = h
+fault_is_untold D w c columns step.Busy there h = h
+fault_is_untold D w c columns step.NoOp there h = h
+fault_is_untold D w c columns step.Arity there h = h
 
 -- it is as one of a run
 pub as-step : (D : Development) (w : World) (held made : List Label) (c : ℕ) (fault : RunFault) → IsUntold D w c fault → IsStepFault D w held c made fault
@@ -51,16 +51,16 @@ as-step D w held made c Mismatch h = absurd h
 as-step D w held made c Full h = absurd h
 
 -- a client that may not take a step
-pub unstepped : (D : Development) (w : World) (held made : List Label) (c n : ℕ) (fault : RunFault) → n ≡ length held → is_unfinished made ≡ true → MayStep w.clients c n (Err fault) → IsStepFault D w held c made fault
-unstepped D w held made c n Mismatch same goes h = (goes, h)
-unstepped D w held made c n Full same goes h = (h.0, subst (λ k. label_limit ≤ k) same h.1)
-unstepped D w held made c n Clients same goes h = h
-unstepped D w held made c n Busy same goes h = h
-unstepped D w held made c n Idle same goes h = absurd h
-unstepped D w held made c n NoOp same goes h = h
-unstepped D w held made c n Arity same goes h = h
-unstepped D w held made c n Overflow same goes h = absurd h
-unstepped D w held made c n OutOfMemory same goes h = absurd h
+pub step_is_faulted : (D : Development) (w : World) (held made : List Label) (c n : ℕ) (fault : RunFault) → n ≡ length held → is_unfinished made ≡ true → MayStep w.clients c n (Err fault) → IsStepFault D w held c made fault
+step_is_faulted D w held made c n Mismatch same goes h = (goes, h)
+step_is_faulted D w held made c n Full same goes h = (h.0, subst (λ k. label_limit ≤ k) same h.1)
+step_is_faulted D w held made c n Clients same goes h = h
+step_is_faulted D w held made c n Busy same goes h = h
+step_is_faulted D w held made c n Idle same goes h = absurd h
+step_is_faulted D w held made c n NoOp same goes h = h
+step_is_faulted D w held made c n Arity same goes h = h
+step_is_faulted D w held made c n Overflow same goes h = absurd h
+step_is_faulted D w held made c n OutOfMemory same goes h = absurd h
 
 -- what holds in any case
 pub if-done : {T E : Type 0} (r : Result T E) (P : Type 0) → P → IfOk r (λ _. P)
@@ -78,14 +78,14 @@ fault-as P Q (Ok x) f h = tt
 fault-as P Q (Err e) f h = f e h
 
 -- a client that may begin a call does, but for `OutOfMemory`
-pub unbegun : (D : Development) (w : World) (c op : ℕ) (ns : List ℤ) (columns : State) (fault : StepFault) → MayBegin D w c op ns → IsBegun D w c op ns columns (Err fault) → fault_as fault ≡ OutOfMemory
-unbegun D w c op ns columns step.NoClient (is, (o, there, count)) h = absurd (not-past w c W.Idle is h)
-unbegun D w c op ns columns step.Busy (is, (o, there, count)) (p, vs, other) = absurd (let same : W.In p vs ≡ W.Idle = same_Some (W.In p vs) W.Idle (sym other ∙ is) in cc)
-unbegun D w c op ns columns step.NoOp (is, (o, there, count)) h = absurd (let k = slice_get_within D.object.operations op o there in let le = h.1 in omega arith)
-unbegun D w c op ns columns step.Arity (is, (o, there, count)) (idle, (p, at, other)) = absurd (other (count ∙ ap (λ x. length x.arguments) (same_Some o p (sym there ∙ at))))
-unbegun D w c op ns columns step.OutOfMemory may h = refl
-unbegun D w c op ns columns step.Idle may h = absurd h
-unbegun D w c op ns columns step.Overflow may h = absurd h
+pub fault_of_begun : (D : Development) (w : World) (c op : ℕ) (ns : List ℤ) (columns : State) (fault : StepFault) → MayBegin D w c op ns → IsBegun D w c op ns columns (Err fault) → fault_as fault ≡ OutOfMemory
+fault_of_begun D w c op ns columns step.NoClient (is, (o, there, count)) h = absurd (not-past w c W.Idle is h)
+fault_of_begun D w c op ns columns step.Busy (is, (o, there, count)) (p, vs, other) = absurd (let same : W.In p vs ≡ W.Idle = same_Some (W.In p vs) W.Idle (sym other ∙ is) in cc)
+fault_of_begun D w c op ns columns step.NoOp (is, (o, there, count)) h = absurd (let k = slice_get_within D.object.operations op o there in let le = h.1 in omega arith)
+fault_of_begun D w c op ns columns step.Arity (is, (o, there, count)) (idle, (p, at, other)) = absurd (other (count ∙ ap (λ x. length x.arguments) (same_Some o p (sym there ∙ at))))
+fault_of_begun D w c op ns columns step.OutOfMemory may h = refl
+fault_of_begun D w c op ns columns step.Idle may h = absurd h
+fault_of_begun D w c op ns columns step.Overflow may h = absurd h
 
 -- ---- labels
 

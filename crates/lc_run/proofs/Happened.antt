@@ -27,10 +27,10 @@ use Rattle.lc_run.specs.declared.ordering.Happening.{Happening}
 -- ---- clients
 
 -- only clients begin calls and return
-pub within : (n : ℕ) (calls : ℕ → Call) (ls : List Label) → list_all (has_client n) ls ≡ true → list_all (is_within n) (happenings calls ls) ≡ true
-within n calls [] h = refl
-within n calls (l ∷ ls) h =
-    let rest = within n (called_last calls l.client l.what) ls (right_true (has_client n l) (list_all (has_client n) ls) h) in
+pub happenings_within : (n : ℕ) (calls : ℕ → Call) (ls : List Label) → list_all (has_client n) ls ≡ true → list_all (is_within n) (happenings calls ls) ≡ true
+happenings_within n calls [] h = refl
+happenings_within n calls (l ∷ ls) h =
+    let rest = happenings_within n (called_last calls l.client l.what) ls (right_true (has_client n l) (list_all (has_client n) ls) h) in
     joined (map (marked calls) l.marks) _ (marks-are l.marks) (joined (map Happens (event_of l.client l.what)) _ (event-is l.what (left_true (has_client n l) (list_all (has_client n) ls) h)) rest)
   where
     joined : (xs ys : List S.Happening) → list_all (is_within n) xs ≡ true → list_all (is_within n) ys ≡ true → list_all (is_within n) (xs ++ ys) ≡ true

@@ -39,8 +39,8 @@ runs-on extends D n before after w v x c what marks e is run step =
     ∥∥₁_map run (λ r. subst (λ ls. IsRun D n ls v) (sym all) (extends D n (labels_of before) w v c what marks r step))
 
 -- where nothing has run
-pub starts : (D : Development) (n : ℕ) (labels : List Label) (w : World) → labels ≡ [] → w ≡ start_world D n → ∥ IsRun D n (labels_of labels) w ∥₁
-starts D n labels w e is = ∣ subst (λ ls. IsRun D n (labels_of ls) w) (sym e) is ∣₁
+pub start_is_run : (D : Development) (n : ℕ) (labels : List Label) (w : World) → labels ≡ [] → w ≡ start_world D n → ∥ IsRun D n (labels_of labels) w ∥₁
+start_is_run D n labels w e is = ∣ subst (λ ls. IsRun D n (labels_of ls) w) (sym e) is ∣₁
 
 -- each passes, and so does what is put there
 pub all-set : {A : Type 0} (p : A → Bool) (xs : List A) (i : ℕ) (x : A) → list_all p xs ≡ true → p x ≡ true → list_all p (set xs i x) ≡ true
@@ -82,12 +82,12 @@ next-world draft draft' stands c t k saved is =
     let clients : set (clients_of stands) c (client_of t.client) ≡ clients_of (set stands c k) = ap (λ z. set (clients_of stands) c (client_of z)) (sym is) ∙ sym (map-set client_of stands c k) in
     λ i. let u : World = record { columns = sym saved i; clients = clients i } in u
 
-pub keeps : RunsExtend → (D : Development) (n : ℕ) (before after : List Label) (draft draft' : Draft) (stands : List Client) (l : Label) (c : ℕ) (t : Step) (k : Client) →
+pub step_keeps_run : RunsExtend → (D : Development) (n : ℕ) (before after : List Label) (draft draft' : Draft) (stands : List Client) (l : Label) (c : ℕ) (t : Step) (k : Client) →
     after ≡ before ++ l ∷ [] → label_of l ≡ record { client = c; what = what_of t.what; marks = marks_of t.marks.items } → saved_in_draft draft' ≡ written_in_draft draft → k ≡ t.client →
     ∥ IsRun D n (labels_of before) (world_in draft stands) ∥₁ →
     Instrumented D (world_in draft stands) c (what_of t.what) (marks_of t.marks.items) (world_with (world_in draft stands) (written_in_draft draft) c (client_of t.client)) →
     ∥ IsRun D n (labels_of after) (world_in draft' (set stands c k)) ∥₁
-keeps extends D n before after draft draft' stands l c t k items is saved same run step =
+step_keeps_run extends D n before after draft draft' stands l c t k items is saved same run step =
     runs-on extends D n before after (world_in draft stands) (world_in draft' (set stands c k)) l c (what_of t.what) (marks_of t.marks.items) items is run
     (subst (λ v. Instrumented D (world_in draft stands) c (what_of t.what) (marks_of t.marks.items) v) (next-world draft draft' stands c t k saved same) step)
 

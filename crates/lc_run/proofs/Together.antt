@@ -83,8 +83,8 @@ of-lists k (x ∷ lists) ls h =
     later k c = omega arith
 
 -- the lists of all clients
-pub gathered : (lists : List (List Label)) (ls : List Label) → list_all (has_client (length lists)) ls ≡ true → ((c : ℕ) → c < length lists → slice_get lists c ≡ Some (labels_by c ls)) → sum (map length lists) ≡ length ls
-gathered lists ls clients h = of-lists 0 lists ls (λ c m. h c m ∙ ap (λ d. Some (labels_by d ls)) (from-none c)) ∙ all-of (length lists) ls clients
+pub sum_of_lengths : (lists : List (List Label)) (ls : List Label) → list_all (has_client (length lists)) ls ≡ true → ((c : ℕ) → c < length lists → slice_get lists c ≡ Some (labels_by c ls)) → sum (map length lists) ≡ length ls
+sum_of_lengths lists ls clients h = of-lists 0 lists ls (λ c m. h c m ∙ ap (λ d. Some (labels_by d ls)) (from-none c)) ∙ all-of (length lists) ls clients
   where
     from-none : (c : ℕ) → c ≡ 0 + c
     from-none c = omega arith

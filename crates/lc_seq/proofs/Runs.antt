@@ -26,8 +26,8 @@ use Rattle.lc_seq.specs.declared.fault.SeqFault.{SeqFault}
 use Rattle.lc_seq.specs.declared.fault.SeqFault.TheVariants.{Overflow, OutOfMemory}
 use Rattle.lc_seq.specs.declared.running.Outcome.{Outcome}
 
-pub dropped : {A : Type 0} (xs : List A) (i : ℕ) (x : A) → i < length xs → x ≡ get_or xs i x → drop i xs ≡ x ∷ drop (i + 1) xs
-dropped xs i x lt is = drop_more xs i x lt ∙ ap (λ y. y ∷ drop (i + 1) xs) (sym is)
+pub drop_at_element : {A : Type 0} (xs : List A) (i : ℕ) (x : A) → i < length xs → x ≡ get_or xs i x → drop i xs ≡ x ∷ drop (i + 1) xs
+drop_at_element xs i x lt is = drop_more xs i x lt ∙ ap (λ y. y ∷ drop (i + 1) xs) (sym is)
 
 pub and_left : (a b : Bool) → (a && b) ≡ true → a ≡ true
 and_left true b e = refl
@@ -92,8 +92,8 @@ run-within s e columns variables (b ∷ bs) r all is =
     by_guard false updates rest is = rest is
 
 -- a guard whose answer is given
-pub decided : (s : State) (e : Env) (f : Formula) (answer : Bool) → is_ground f ≡ true → (answer ≡ true) ↔ Holds s e outside f → answer ≡ truth s e outside f
-decided s e f answer ground means =
+pub answer_is_truth : (s : State) (e : Env) (f : Formula) (answer : Bool) → is_ground f ≡ true → (answer ≡ true) ↔ Holds s e outside f → answer ≡ truth s e outside f
+answer_is_truth s e f answer ground means =
     let d = Decides-truth s e outside f ground in
     step answer (truth s e outside f) (λ h. d.1 (means.0 h)) (λ h. means.1 (d.0 h))
   where

@@ -12,7 +12,7 @@ use Rattle.lc_sexp.specs.Flat.{entry_of, entries, is_within, trees_of, IsFlat, I
 use Rattle.lc_sexp.specs.declared.node.Node.{Node}
 use Rattle.lc_sexp.specs.declared.node.Node.TheVariants.{Atom}
 use Rattle.lc_sexp.proofs.Tokens.{and_parts}
-use Rattle.lc_sexp.proofs.Nodes.{both, entries_more, within_more, within_push}
+use Rattle.lc_sexp.proofs.Nodes.{both_are_true, entries_more, within_more, within_push}
 use Rattle.lc_sexp.proofs.Flats.{flat_from, flat_counted}
 
 -- nodes that have the entries of one tree are this tree
@@ -45,7 +45,7 @@ pub letters_append : (text w : List ℕ) → are_letters text ≡ true → are_l
 letters_append [] w h k = k
 letters_append (b ∷ text) w h k =
     let hs = and_parts (is_Letter (class_of b)) (are_letters text) h in
-    both _ _ hs.0 (letters_append text w hs.1 k)
+    both_are_true _ _ hs.0 (letters_append text w hs.1 k)
 
 -- an atom after others
 pub atom_put : (text text' w : List ℕ) (nodes nodes' : List Node) (start len : ℕ) → text' ≡ text ++ w → nodes' ≡ nodes ++ (Atom start len ∷ []) → start ≡ length text → len ≡ length w

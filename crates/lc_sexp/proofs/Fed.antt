@@ -24,7 +24,7 @@ use Rattle.lc_sexp.specs.declared.reader.Reader.{Reader}
 use Rattle.lc_sexp.proofs.Faults.{found_fault, found_trees}
 use Rattle.lc_sexp.proofs.Nodes.{letters_drop, none_listed}
 use Rattle.lc_sexp.proofs.Cuts.{told_none, rooted_none}
-use Rattle.lc_sexp.proofs.Runs.{taken_on, parted}
+use Rattle.lc_sexp.proofs.Runs.{taken_on, bytes_parted_at}
 use Rattle.lc_sexp.proofs.Takings.{at_rests, same_parts}
 use Rattle.lc_sexp.proofs.Answered.{IsTextFault-weaker}
 
@@ -185,7 +185,7 @@ pub after_last : (fed piece within last : List ℕ) (i : ℕ) (taken : List Part
     → IsAfterTaking ((fed ++ take i within) ++ (take (length within - i) (drop i within) ++ last)) taken r → IsAfterTaking (fed ++ piece) taken r
 after_last fed piece within last i taken r e h =
     let tail : List ℕ = take (length within - i) (drop i within) in
-    let same : take i within ++ (tail ++ last) ≡ piece = sym (parted i within last) ∙ sym e in
+    let same : take i within ++ (tail ++ last) ≡ piece = sym (bytes_parted_at i within last) ∙ sym e in
     subst (λ x. IsAfterTaking x taken r) (append_assoc fed (take i within) (tail ++ last) ∙ ap (λ x. fed ++ x) same) h
 
 pub fault_before : (tail last rest : List ℕ) (s : Splitter) → ((rest : List ℕ) → fault_with None s (tail ++ rest) ≡ Some s.machine.offset) → fault_with None s ((tail ++ last) ++ rest) ≡ Some s.machine.offset

@@ -18,8 +18,8 @@ use Rattle.lc_sexp.specs.declared.node.Node.TheVariants.{Atom, List as ListOf, O
 use Rattle.lc_sexp.proofs.Tokens.{and_parts, lexed_word}
 use Rattle.lc_sexp.proofs.Rows.{AreRows, rows_from, atom_behind, hole_behind, close_behind, place_most}
 
-pub both : (a b : Bool) → a ≡ true → b ≡ true → (a && b) ≡ true
-both a b h k = rw (h, k) refl
+pub both_are_true : (a b : Bool) → a ≡ true → b ≡ true → (a && b) ≡ true
+both_are_true a b h k = rw (h, k) refl
 
 -- letters after those of nodes change no entry
 take_drop_more : (s l : ℕ) (text more : List ℕ) → s + l ≤ length text → take l (drop s (text ++ more)) ≡ take l (drop s text)
@@ -43,17 +43,17 @@ within_more k m [] le h = refl
 within_more k m (Atom s l ∷ nodes) le h =
     let hs = and_parts (nat_le (s + l) k) (list_all (is_within k) nodes) h in
     let near = within_reads s l k hs.0 in
-    both (nat_le (s + l) m) (list_all (is_within m) nodes) (grind (arith, nat_tests)) (within_more k m nodes le hs.1)
+    both_are_true (nat_le (s + l) m) (list_all (is_within m) nodes) (grind (arith, nat_tests)) (within_more k m nodes le hs.1)
 within_more k m (ListOf n ∷ nodes) le h = within_more k m nodes le h
 within_more k m (Open ∷ nodes) le h = within_more k m nodes le h
 
 pub within_push : (k : ℕ) (nodes : List Node) (x : Node) → list_all (is_within k) nodes ≡ true → is_within k x ≡ true → list_all (is_within k) (nodes ++ (x ∷ [])) ≡ true
-within_push k nodes x h e = list_all-append (is_within k) nodes (x ∷ []) ∙ both _ _ h (both (is_within k x) true e refl)
+within_push k nodes x h e = list_all-append (is_within k) nodes (x ∷ []) ∙ both_are_true _ _ h (both_are_true (is_within k x) true e refl)
 
 within_set : (k : ℕ) (nodes : List Node) (i n : ℕ) → list_all (is_within k) nodes ≡ true → list_all (is_within k) (set nodes i (ListOf n)) ≡ true
 within_set k [] i n h = refl
 within_set k (x ∷ nodes) zero n h = (and_parts (is_within k x) _ h).1
-within_set k (x ∷ nodes) (suc i) n h = let hs = and_parts (is_within k x) _ h in both _ _ hs.0 (within_set k nodes i n hs.1)
+within_set k (x ∷ nodes) (suc i) n h = let hs = and_parts (is_within k x) _ h in both_are_true _ _ hs.0 (within_set k nodes i n hs.1)
 
 -- more letters at the end of the text
 pub under_way_letters : (text text' : List ℕ) (start : ℕ) (more : List ℕ) (nodes : List Node) (holes : List ℕ) → text' ≡ text ++ more → start ≤ length text
@@ -114,7 +114,7 @@ letters_drop (b ∷ text) (suc start) h = letters_drop text start (and_parts (is
 pub letters_take : (text : List ℕ) (n : ℕ) → are_letters text ≡ true → are_letters (take n text) ≡ true
 letters_take text zero h = refl
 letters_take [] (suc n) h = refl
-letters_take (b ∷ text) (suc n) h = let hs = and_parts (is_Letter (class_of b)) (are_letters text) h in both _ _ hs.0 (letters_take text n hs.1)
+letters_take (b ∷ text) (suc n) h = let hs = and_parts (is_Letter (class_of b)) (are_letters text) h in both_are_true _ _ hs.0 (letters_take text n hs.1)
 
 -- a word before a text that begins none
 pub word_lexed : (w rest : List ℕ) → length w ≢ 0 → are_letters w ≡ true → begins_word rest ≡ false → word w ∷ lexed rest ≡ lexed (w ++ rest)

@@ -60,20 +60,20 @@ no_piece text (Text offset) fault t p = no_fault_lem (bracketed text) (list (t �
 no_piece text _ fault t p = absurd fault
 
 -- bytes that were taken after others
-pub took : (m m' : Machine) (fed bytes : List ℕ) → HasTaken None m fed
+pub taken_after_others : (m m' : Machine) (fed bytes : List ℕ) → HasTaken None m fed
     → ((rest : List ℕ) → told m'.text.items m'.start m'.nodes.items (uncommented m'.in_comment rest) ≡ told m.text.items m.start m.nodes.items (uncommented m.in_comment (bytes ++ rest)))
     → ((rest : List ℕ) → fault_from m'.offset (vec_len m'.holes) (uncommented m'.in_comment rest) ≡ fault_from m.offset (vec_len m.holes) (uncommented m.in_comment (bytes ++ rest)))
     → HasTaken None m' (fed ++ bytes)
-took m m' fed bytes h tells faults = (
+taken_after_others m m' fed bytes h tells faults = (
   λ rest. tells rest ∙ h.0 (bytes ++ rest) ∙ ap (λ x. lexed (uncommented false x)) (sym (append_assoc fed bytes rest)),
   λ rest. faults rest ∙ h.1 (bytes ++ rest) ∙ ap (λ x. fault_from 0 0 (uncommented false x)) (sym (append_assoc fed bytes rest)),
 )
 
 -- bytes that cannot be taken after others
-pub stopped : (m : Machine) (o : ℕ) (fed bytes more text : List ℕ) → HasTaken None m fed
+pub stopped_no_piece : (m : Machine) (o : ℕ) (fed bytes more text : List ℕ) → HasTaken None m fed
     → ((rest : List ℕ) → fault_from m.offset (vec_len m.holes) (uncommented m.in_comment (bytes ++ rest)) ≡ Some o)
     → bracketed text ≡ fed ++ (bytes ++ more) → (t : Tree) → IsPieceOf t text → ⊥
-stopped m o fed bytes more text h wrong e t p =
+stopped_no_piece m o fed bytes more text h wrong e t p =
     no_fault_lem (bracketed text) (list (t ▸ none) ▸ none) o p.reads
     (found_fault (bracketed text) o (ap (λ x. fault_from 0 0 (uncommented false x)) e ∙ sym (h.1 (bytes ++ more)) ∙ wrong more))
 

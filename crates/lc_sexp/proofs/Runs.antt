@@ -15,14 +15,14 @@ use Rattle.lc_sexp.specs.declared.node.Node.{Node}
 use Rattle.lc_sexp.specs.declared.run.Run.{Run}
 use Rattle.lc_sexp.specs.declared.class.Class.{Class}
 use Rattle.lc_sexp.specs.declared.class.Class.TheVariants.{White, Open, Close, Letter, Other}
-use Rattle.lc_sexp.proofs.Nodes.{both}
+use Rattle.lc_sexp.proofs.Nodes.{both_are_true}
 use Rattle.lc_sexp.proofs.Cuts.{told_ended_at}
 use Rattle.lc_sexp.proofs.Cutting.{uncommented_behind}
 
 -- letters are letters
 pub letters_of : (seen : List ℕ) → AreOf Letter seen → are_letters seen ≡ true
 letters_of [] h = refl
-letters_of (b ∷ s) h = both (is_Letter (class_of b)) (are_letters s) (ap is_Letter h.0) (letters_of s h.1)
+letters_of (b ∷ s) h = both_are_true (is_Letter (class_of b)) (are_letters s) (ap is_Letter h.0) (letters_of s h.1)
 
 -- white bytes make no tokens
 lexed_whites : (seen rest : List ℕ) → AreOf White seen → lexed (seen ++ rest) ≡ lexed rest
@@ -34,15 +34,15 @@ told_whites text start nodes seen rest e h =
     told_ended_at text start nodes rest e ∙ ap (told_tokens text nodes) (sym (lexed_whites seen rest h)) ∙ sym (told_ended_at text start nodes (seen ++ rest) e)
 
 -- a run whose bytes are no letters begins no word
-pub wordless : (k : Class) (seen rest : List ℕ) → is_Letter k ≡ false → 0 < length seen → AreOf k seen → begins_word (seen ++ rest) ≡ false
-wordless k [] rest e some h = absurd (omega (arith, some))
-wordless k (b ∷ s) rest e some h = ap is_Letter h.0 ∙ e
+pub begins_no_word : (k : Class) (seen rest : List ℕ) → is_Letter k ≡ false → 0 < length seen → AreOf k seen → begins_word (seen ++ rest) ≡ false
+begins_no_word k [] rest e some h = absurd (omega (arith, some))
+begins_no_word k (b ∷ s) rest e some h = ap is_Letter h.0 ∙ e
 
 -- a run of one byte is that byte
-pub alone : (k : Class) (seen : List ℕ) → length seen ≡ 1 → AreOf k seen → (b : ℕ) × (seen ≡ b ∷ []) × (class_of b ≡ k)
-alone k [] e h = absurd (omega (arith, e))
-alone k (b ∷ []) e h = (b, refl, h.0)
-alone k (b ∷ c ∷ s) e h = absurd (omega (arith, e))
+pub run_of_one : (k : Class) (seen : List ℕ) → length seen ≡ 1 → AreOf k seen → (b : ℕ) × (seen ≡ b ∷ []) × (class_of b ≡ k)
+run_of_one k [] e h = absurd (omega (arith, e))
+run_of_one k (b ∷ []) e h = (b, refl, h.0)
+run_of_one k (b ∷ c ∷ s) e h = absurd (omega (arith, e))
 
 abbrev at_limit : ℕ → Bool
 at_limit offset = offset == file_limit
@@ -274,10 +274,10 @@ pub seen_letters : (class : Class) (bytes seen : List ℕ) → class ≡ Letter 
 seen_letters class bytes seen e h = ap are_letters (sym (h.letters e)) ∙ letters_of seen (seen_of class Letter bytes seen e h)
 
 pub seen_byte : (class k : Class) (bytes seen : List ℕ) → class ≡ k → ((n : ℕ) → IsCount k n → n ≡ 1) → AreSeen class bytes seen → (b : ℕ) × (seen ≡ b ∷ []) × (class_of b ≡ k)
-seen_byte class k bytes seen e one h = alone k seen (one (length seen) (subst (λ j. IsCount j (length seen)) e h.count)) (seen_of class k bytes seen e h)
+seen_byte class k bytes seen e one h = run_of_one k seen (one (length seen) (subst (λ j. IsCount j (length seen)) e h.count)) (seen_of class k bytes seen e h)
 
 pub seen_wordless : (class k : Class) (bytes seen rest : List ℕ) → class ≡ k → is_Letter k ≡ false → 0 < length bytes → AreSeen class bytes seen → begins_word (seen ++ rest) ≡ false
-seen_wordless class k bytes seen rest e f some h = wordless k seen rest f (omega (arith, some, h.size)) (seen_of class k bytes seen e h)
+seen_wordless class k bytes seen rest e f some h = begins_no_word k seen rest f (omega (arith, some, h.size)) (seen_of class k bytes seen e h)
 
 seen_length : (c : Bool) (bytes : List ℕ) (run : Run) → (h : IsRun c bytes run) → length h.seen ≡ run.length
 seen_length c bytes run h = let within = h.within in omega (arith, h.counts.size, length-take run.length bytes)
@@ -344,8 +344,8 @@ taken_on i n bytes rest =
     ∙ sym (append_assoc (take i bytes) (take n (drop i bytes)) rest)
     ∙ ap (λ x. x ++ rest) (sym (take-add i n bytes))
 
-pub parted : (i : ℕ) (bytes rest : List ℕ) → bytes ++ rest ≡ take i bytes ++ (take (length bytes - i) (drop i bytes) ++ rest)
-parted i bytes rest =
+pub bytes_parted_at : (i : ℕ) (bytes rest : List ℕ) → bytes ++ rest ≡ take i bytes ++ (take (length bytes - i) (drop i bytes) ++ rest)
+bytes_parted_at i bytes rest =
     ap (λ x. x ++ rest) (sym (take-append-drop i bytes)) ∙ append_assoc (take i bytes) (drop i bytes) rest
     ∙ ap (λ x. take i bytes ++ (x ++ rest)) (sym (tail_of i bytes))
 
@@ -366,8 +366,8 @@ cut_short bytes within last e cut =
     let n : length bytes ≡ length within + length last = ap length e ∙ length-append within last in
     (omega (arith, n, cut), omega (arith, n, cut))
 
-pub differ : (m n : ℕ) → (m == n) ≡ false → m ≢ n
-differ m n h = grind (arith, nat_tests)
+pub eq_false_differ : (m n : ℕ) → (m == n) ≡ false → m ≢ n
+eq_false_differ m n h = grind (arith, nat_tests)
 
 pub same_last : (xs ys : List ℕ) (x y : ℕ) → xs ++ (x ∷ []) ≡ ys ++ (y ∷ []) → x ≡ y
 same_last [] [] x y e = cc

@@ -51,10 +51,10 @@ inside s m e us n k h le = writes_other m (writes_of s e us) k (go us h)
     go (u ∷ us) h = ((λ x. let lt = h.0 in omega arith), go us h.1)
 
 -- if its conditions are valid and the columns after the last stay as they are, a step is an instance of the action
-pub acts : (D : Development) (e : Edge) (count path : ℕ) (s m : State) (vs : List ℤ) (clients c : ℕ) (hs : List Formula) (σ : ℕ → Column) (ts : List Term) (a : Action) → variable vs 0 ≡ pos clients → variable vs 1 ≡ pos c →
+pub valid_action_acts : (D : Development) (e : Edge) (count path : ℕ) (s m : State) (vs : List ℤ) (clients c : ℕ) (hs : List Formula) (σ : ℕ → Column) (ts : List Term) (a : Action) → variable vs 0 ≡ pos clients → variable vs 1 ≡ pos c →
     Every (λ (u : Update). u.column < column_count (first_system D)) a.updates → Every IsValid (action_conditions D e count path hs σ ts (Some a)) → EachHolds s (variable vs) hs → columns_by s (variable vs) σ ≡ m →
     ((k : ℕ) → column_count (first_system D) ≤ k → m k ≡ s k) → Acts clients a c (map (value s (variable vs) outside) ts) s m
-acts D e count path s m vs clients c hs σ ts a zeroth first few v h is beyond = (
+valid_action_acts D e count path s m vs clients c hs σ ts a zeroth first few v h is beyond = (
   subst (λ X. X) (Holds-told s (variable vs) Base (acting_variables (Variable 1) ts) a.guard ∙ (λ i. Holds s (variable (values i)) outside a.guard)) (v.0.holds s (variable vs) h),
   fun_ext (λ k. by k (nat_lt k (column_count (first_system D))) refl),
 )

@@ -28,7 +28,7 @@ use Rattle.lc_sound.specs.Valid.{IsValid}
 use Rattle.lc_term.proofs.Stores.{cell_other, cell_same, cell_away, stored_here}
 use Rattle.lc_sound.proofs.Stable.{each_agree}
 use Rattle.lc_sound.proofs.Frames.{Kept, Kept_trans, Kept_rides}
-use Rattle.lc_sound.proofs.Acting.{acts}
+use Rattle.lc_sound.proofs.Acting.{valid_action_acts}
 use Rattle.lc_sound.proofs.Others.{FrameAt, frame_at, frame_kept, Moved, Same, By, other_good}
 use Rattle.lc_sound.proofs.Rideable.{Only}
 use Rattle.lc_sound.proofs.Lifting as L
@@ -130,7 +130,7 @@ module _ (D : Development) (X : IsProven D) (n : ℕ) (w : World) (G : IsGood D 
           let a : Action = r.0.0 in (
             a,
             r.0.1,
-            acts D e (Y.count D X n w G c p vs at e among from facts ms m one ride) (Y.number D X n w G c p vs at e among from facts ms m one ride) s M vs n c (Y.all D X n w G c p vs at e among from facts ms m one ride) (at_end first e.next (Y.path D X n w G c p vs at e among from facts ms m one ride).columns) x.arguments a good.5 good.6
+            valid_action_acts D e (Y.count D X n w G c p vs at e among from facts ms m one ride) (Y.number D X n w G c p vs at e among from facts ms m one ride) s M vs n c (Y.all D X n w G c p vs at e among from facts ms m one ride) (at_end first e.next (Y.path D X n w G c p vs at e among from facts ms m one ride).columns) x.arguments a good.5 good.6
                 (every-at D.actions x.action a X.resolved.actions r.0.1)
                 (subst (λ y. Every IsValid (action_conditions D e (Y.count D X n w G c p vs at e among from facts ms m one ride) (Y.number D X n w G c p vs at e among from facts ms m one ride) (Y.all D X n w G c p vs at e among from facts ms m one ride) (at_end first e.next (Y.path D X n w G c p vs at e among from facts ms m one ride).columns) x.arguments y)) r.0.1 v)
                 (Y.all_hold D X n w G c p vs at e among from facts ms m one ride) (Y.ended_is D X n w G c p vs at e among from facts ms m one ride e.next) (ended-beyond e.next),

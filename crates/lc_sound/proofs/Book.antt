@@ -32,7 +32,7 @@ use Rattle.lc_term.proofs.Stores.{stored-append, writes_other}
 use Rattle.lc_seq.proofs.Abstract.{abstract_of, run-abstract, IsRun, run_is, stored-abstract, same-abstract}
 use Rattle.lc_machine.proofs.Bodies.{does_outside}
 use Rattle.lc_sound.proofs.Rows.{row_of, row_same, IsOfCall, Matches, in_call, takes_mark, takes_note}
-use Rattle.lc_outline.proofs.Matched.{branches_resolved, replies_resolved, few, stepped}
+use Rattle.lc_outline.proofs.Matched.{branches_resolved, replies_resolved, arity_and_replies_few, text_step_run}
 use Rattle.lc_sound.proofs.RowChanges.{rows_away, rows_kept, specification_kept, mark_at, note_at, mark_behind, note_behind, marked_row, noted_row}
 
 same_put : (phases : ℕ → Phase) (c : ℕ) (q : Phase) → call_in q ≡ call_in (phases c) → (d : ℕ) → call_in (put phases c q d) ≡ call_in (phases d)
@@ -176,7 +176,7 @@ module _ (D : Development) (R : IsResolved D) where
     taken phases s c o choice ws vs f is = record {
       runs = subst (λ k. IsRun n (op_replies ops k) ws vs) (sym f.op)
           (run_is n (2 + arity ops o + length (given_in choice)) (op_replies ops o) s (call_env c (arguments_in ops first s c o ++ given_in choice)) (chosen choice (op_branches ops o)) ws vs (branches_resolved D R o choice) (replies_resolved D R o choice) is);
-      steps = stepped ops (abs s) c (last c) choice o (arguments_in ops first s c o) ws vs f.op f.numbers f.of_call.whole
+      steps = text_step_run ops (abs s) c (last c) choice o (arguments_in ops first s c o) ws vs f.op f.numbers f.of_call.whole
           (run-abstract n (2 + arity ops o + length (given_in choice)) s (call_env c (arguments_in ops first s c o ++ given_in choice)) (chosen choice (op_branches ops o)) (branches_resolved D R o choice) ∙ is);
     }
 
@@ -191,7 +191,7 @@ module _ (D : Development) (R : IsResolved D) where
         same-abstract n u a (specification_kept n first a (mark_writes first c reply) below (mark_behind first c reply)) ∙ stored-abstract n s ws k.runs.columns in
         let leads : Leads last phases s (record { client = c; note = false; choice = choice; reply = reply } ∷ []) u =
         one_mark phases s u c false choice reply (Done (last c) reply) tells (sym f.here)
-        (marked_row ops first a c (last c) reply k.runs.count (few D R (last c).op).1)
+        (marked_row ops first a c (last c) reply k.runs.count (arity_and_replies_few D R (last c).op).1)
         (λ d ne. rows_away first a c d (mark_writes first c reply) ne (mark_at first c reply) ∙ rows_kept n first s d ws below k.runs.columns)
         (takes_mark ops (phases c) (row_of first s c) e (tells.matches c) one f.here)
         (subst (λ x. step (abs s) c (last c) choice ≡ Some (x, reply)) (sym cells) k.steps) in
@@ -206,7 +206,7 @@ module _ (D : Development) (R : IsResolved D) where
         let cells : abs u ≡ abs s = same-abstract n u s (specification_kept n first s (note_writes first c reply) below (note_behind first c reply)) in
         let leads : Leads last phases s (record { client = c; note = true; choice = choice; reply = reply } ∷ []) u =
         one_mark phases s u c true choice reply (Noted (last c) reply) tells (sym f.here)
-        (noted_row ops first s c (last c) reply one f.of_call k.runs.count (few D R (last c).op).1)
+        (noted_row ops first s c (last c) reply one f.of_call k.runs.count (arity_and_replies_few D R (last c).op).1)
         (λ d ne. rows_away first s c d (note_writes first c reply) ne (note_at first c reply))
         (takes_note ops (phases c) (row_of first s c) e (tells.matches c) one f.here)
         (cells, k.steps) in

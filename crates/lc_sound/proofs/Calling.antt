@@ -36,7 +36,7 @@ use Rattle.lc_sound.specs.Valid.{IsValid}
 use Rattle.lc_term.proofs.Stores.{Every_left, Every_right, writes_away}
 use Rattle.lc_term.proofs.Symbolic.{columns_by, values_by, columns_by-after, each_told, each-append}
 use Rattle.lc_sound.proofs.Stable.{each_agree}
-use Rattle.lc_outline.proofs.Matched.{match_at, few}
+use Rattle.lc_outline.proofs.Matched.{match_at, arity_and_replies_few}
 use Rattle.lc_sound.proofs.RowChanges.{invoked_row, invocation_at}
 use Rattle.lc_sound.proofs.Rideable.{Only, at_other}
 use Rattle.lc_sound.proofs.Going.{valid_goals}
@@ -151,7 +151,7 @@ module _ (D : Development) (X : IsProven D) (n : ℕ) (w : World) (G : IsGood D 
   was = G.each_client c Idle idle
 
   short : length ns ≤ 3
-  short = let m = (match_at D X.resolved o x is).arguments in let f = (few D X.resolved o).0 in omega arith
+  short = let m = (match_at D X.resolved o x is).arguments in let f = (arity_and_replies_few D X.resolved o).0 in omega arith
 
   abbrev zs : List ℤ
   zs = replicate (length x.locals) (pos 0)

@@ -2,7 +2,7 @@
 use Rattle.std.proofs.Common.{◌≡◌, ℕ, zero, suc, ◌+◌, ◌<◌, ◌≤◌, Bool, true, false, ◌==◌, cond, List, [], ◌∷◌, ℤ, take, subst, inl, inr, arith}
 use Rattle.lc_seq.specs.Sequential.{Call}
 use Rattle.lc_hist.specs.History.{Event, Called, Replied, Entry, is_call, is_return, is_of, count, IsPlace, Precedes}
-use Rattle.lc_hist.proofs.Places.{more, behind}
+use Rattle.lc_hist.proofs.Places.{count_longer_front, count_behind_place}
 use Rattle.lc_sound.specs.Happening.{Happening, Happens, Marked, client_of, events, returns_next, counted}
 use Rattle.lc_sound.specs.Lawful.{Phase, Free, Waiting, Noted, Done, Takes, calls, returns_done, returns_noted, marks, marks_noted, notes, notes_again}
 use Rattle.lc_sound.proofs.Own.{IsOwn, same_client}
@@ -99,7 +99,7 @@ stands_earlier hs law c k d m p q precedes at-c at-d =
     let n : ℕ = cut hs j in
     let of-c = is_cut c Free hs (law c) j in
     let of-d = is_cut d Free hs (law d) j in
-    let returned = behind (is_return c) (events hs) precedes.returns j precedes.returned.element precedes.returned.stands precedes.returned.passes precedes.earlier in
-    let before : n ≤ p → ⊥ = λ le. let few = more (is_of c) (counted hs) n p le in omega (arith, few, of-c.0, returned, at-c.before, precedes.returned.before) in
-    let after : q < n → ⊥ = λ lt. let many = behind (is_of d) (counted hs) q n at-d.element at-d.stands at-d.passes lt in omega (arith, many, of-d.1, at-d.before, precedes.begun.before) in
+    let returned = count_behind_place (is_return c) (events hs) precedes.returns j precedes.returned.element precedes.returned.stands precedes.returned.passes precedes.earlier in
+    let before : n ≤ p → ⊥ = λ le. let few = count_longer_front (is_of c) (counted hs) n p le in omega (arith, few, of-c.0, returned, at-c.before, precedes.returned.before) in
+    let after : q < n → ⊥ = λ lt. let many = count_behind_place (is_of d) (counted hs) q n at-d.element at-d.stands at-d.passes lt in omega (arith, many, of-d.1, at-d.before, precedes.begun.before) in
     omega arith

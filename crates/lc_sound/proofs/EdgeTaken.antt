@@ -26,16 +26,16 @@ use Rattle.lc_object.specs.declared.instr.EdgeKind.TheVariants.{Next}
 use Rattle.lc_machine.specs.EdgeSteps.{updated, reached}
 use Rattle.lc_machine.specs.Step.{Event, Invoked, Moved, Returned, IsClient, IsRunning, Does, Steps, Goes, Answers, after, numbers}
 use Rattle.lc_machine.specs.World.{Idle, In, World}
-use Rattle.lc_machine.proofs.Bodies.{placed, answers_next, does_outside}
+use Rattle.lc_machine.proofs.Bodies.{point_is_placed, answers_next, does_outside}
 use Rattle.lc_machine.proofs.EdgeLaw.{from_edge}
 use Rattle.lc_rider.specs.Paths.{Path, path_start, edge_variables}
 use Rattle.lc_rider.specs.PathLaws.{AreMet, OnlyClients, LeavesCalls, DeedLeavesCalls}
 use Rattle.lc_rider.specs.Rider.{Mark, Deed, Assign, Marks, Rider, RideAll, IsJustified, return_writes}
-use Rattle.lc_rider.proofs.PathLaw.{exclude, go_along}
-use Rattle.lc_rider.proofs.PathTaken.{taken}
+use Rattle.lc_rider.proofs.PathLaw.{paths_exclude, go_along}
+use Rattle.lc_rider.proofs.PathTaken.{paths_are_taken}
 use Rattle.lc_outline.specs.Development.{Development, first_system, on_at, riders_at}
 use Rattle.lc_outline.specs.Resolved.{IsResolved, IsRiderResolved, IsDeedResolved}
-use Rattle.lc_outline.proofs.Matched.{grounds, all_resolved, match_at, few}
+use Rattle.lc_outline.proofs.Matched.{op_branches_ground, all_resolved, match_at, arity_and_replies_few}
 use Rattle.lc_cond.specs.Conditions.{hold_terms, justified, at_end, reply_goals}
 use Rattle.lc_sound.specs.EdgePaths.{edge_paths, IsGone, IsOrdinary, EdgePathsExclude, StepsArePaths}
 use Rattle.lc_sound.specs.Instrumented.{Instrumented, with_columns}
@@ -44,11 +44,11 @@ use Rattle.lc_sound.proofs.Gone.{edge_here}
 use Rattle.lc_sound.proofs.Leaving.{IsReturn, return_edge, code_values}
 use Rattle.lc_sound.proofs.Lifting.{AreBehind, edge_columns_are, edge_variables_are, edge_targets, assigned_other}
 use Rattle.lc_sound.proofs.Once.{does_once}
-use Rattle.lc_sound.proofs.Simulated.{went, returned, riders-are}
+use Rattle.lc_sound.proofs.Simulated.{goes_where_reached, answers_when_reached, riders-are}
 
 pub edge_paths_exclude : EdgePathsExclude
 edge_paths_exclude D e s vs =
-    exclude D.specification.operations (first_system D) 0 (operation_at D.object e.point) (edge_variables (length vs) e) (riders_at D e.point e.kind) (path_start e) s (variable vs)
+    paths_exclude D.specification.operations (first_system D) 0 (operation_at D.object e.point) (edge_variables (length vs) e) (riders_at D e.point e.kind) (path_start e) s (variable vs)
 
 -- ---- a justified reply meets its goal
 
@@ -124,13 +124,13 @@ module _ (D : Development) (R : IsResolved D) (w : World) (c : ℕ) (vs : List �
   done : Does D.object s vs pt.instruction e.kind cols (reached s vs e e.next)
   done = from_edge D.object R.object e.point pt pt-is s cols vs e.kind (reached s vs e e.next) (e, (among, refl, refl), (facts, refl, refl))
 
-  targets : AreBehind (2 + length (placed D.object R.object e.point pt pt-is).operation.arguments) e.targets
+  targets : AreBehind (2 + length (point_is_placed D.object R.object e.point pt pt-is).operation.arguments) e.targets
   targets =
-      let pl = placed D.object R.object e.point pt pt-is in
+      let pl = point_is_placed D.object R.object e.point pt pt-is in
       edge_targets D.object e.point pt.operation pl.operation pt.instruction e pl.instruction (edge_here D.object e e.point pt among refl pt-is)
 
   new-own : variable new 1 ≡ pos c
-  new-own = assigned_other vs e.targets (numbers s vs e.values) (2 + length (placed D.object R.object e.point pt pt-is).operation.arguments) 1 targets (omega arith) ∙ O.own c e.point vs at
+  new-own = assigned_other vs e.targets (numbers s vs e.values) (2 + length (point_is_placed D.object R.object e.point pt pt-is).operation.arguments) 1 targets (omega arith) ∙ O.own c e.point vs at
 
   vars-are : values_by s env τ ≡ new
   vars-are = edge_variables_are s vs (length vs) e refl
@@ -154,7 +154,7 @@ module _ (D : Development) (R : IsResolved D) (w : World) (c : ℕ) (vs : List �
   rode : (marks : List Mark) (m : State) → Ride marks m → Rode m
   rode marks m ride =
       let there : RideAll ops first c o (variable (values_by s env τ)) (columns_by s env (path_start e).columns) riders marks m = subst (λ X. X) (λ i. RideAll ops first c o (variable (sym vars-are i)) (sym cols-are i) riders marks m) ride in
-      let t = go_along ops first 0 c o τ riders (path_start e) s env marks m (grounds D R) mine tt tt there in
+      let t = go_along ops first 0 c o τ riders (path_start e) s env marks m (op_branches_ground D R) mine tt tt there in
       record { path = t.0; listed = t.1; known = t.2; marks = t.3; columns = t.4 }
 
   kept : OnlyClients first (columns_by s env (path_start e).columns)
@@ -170,7 +170,7 @@ module _ (D : Development) (R : IsResolved D) (w : World) (c : ℕ) (vs : List �
 
   ridden : (p : Path) → IsIn p (edge_paths D (length vs) e) → EachHolds s env p.facts → AreMet s env p.duties → (marks : List Mark) × Ride marks (columns_by s env p.columns)
   ridden p is hold met =
-      let t = taken ops first 0 c o τ riders (path_start e) s env p (grounds D R)
+      let t = paths_are_taken ops first 0 c o τ riders (path_start e) s env p (op_branches_ground D R)
       (λ a. branches_leave (length D.specification.columns) (2 + Rattle.lc_seq.specs.Branches.arity ops a) first (op_branches ops a) (omega arith) (all_resolved D R a))
       own-stores mine kept is hold met in
       (t.0, subst (λ X. X) (λ i. RideAll ops first c o (variable (vars-are i)) (cols-are i) riders t.0 (columns_by s env p.columns)) t.1)
@@ -193,7 +193,7 @@ module _ (D : Development) (R : IsResolved D) (w : World) (c : ℕ) (vs : List �
       let pts : running.code.0 ≡ pt = same_Some running.code.0 pt (sym running.code.1 ∙ (ap (slice_get D.object.points) point ∙ pt-is)) in
       let i-is : i ≡ pt.instruction = sym running.code.2 ∙ ap (λ (x : Point). x.instruction) pts in
       let did = does_once D.object s vs pt.instruction k e.kind s' cols (Goes next there) (reached s vs e e.next) (subst (λ X. X) (λ j. Does D.object s (same j) (i-is j) k s' (Goes next there)) does) done in
-      let by = went s vs e next there e.next did.2 in
+      let by = goes_where_reached s vs e next there e.next did.2 in
       record {
         next = next;
         point = point;
@@ -218,8 +218,8 @@ module _ (D : Development) (R : IsResolved D) (w : World) (c : ℕ) (vs : List �
       let i-is : i ≡ pt.instruction = sym running.code.2 ∙ ap (λ (x : Point). x.instruction) pts in
       let does' : Does D.object s vs pt.instruction k s' (Answers ns) = subst (λ X. X) (λ j. Does D.object s (same j) (i-is j) k s' (Answers ns)) does in
       let did = does_once D.object s vs pt.instruction k e.kind s' cols (Answers ns) (reached s vs e e.next) does' done in
-      let by = returned s vs e ns e.next did.2 in
-      let op = (placed D.object R.object e.point pt pt-is).operation in
+      let by = answers_when_reached s vs e ns e.next did.2 in
+      let op = (point_is_placed D.object R.object e.point pt pt-is).operation in
       record {
         kind = sym did.0 ∙ answers_next D.object pt.operation op s vs k s' pt.instruction ns does';
         leads = by.0;
@@ -276,9 +276,9 @@ module _ (D : Development) (R : IsResolved D) (w : World) (c : ℕ) (vs : List �
 
   -- ---- a return
 
-  return_is : e.next ≡ None → IsReturn (placed D.object R.object e.point pt pt-is).operation e
+  return_is : e.next ≡ None → IsReturn (point_is_placed D.object R.object e.point pt pt-is).operation e
   return_is is =
-      let pl = placed D.object R.object e.point pt pt-is in
+      let pl = point_is_placed D.object R.object e.point pt pt-is in
       return_edge D.object e.point pt.operation pl.operation pt.instruction e pl.instruction (edge_here D.object e e.point pt among refl pt-is) is
 
   still : e.next ≡ None → vs ≡ new
@@ -286,9 +286,9 @@ module _ (D : Development) (R : IsResolved D) (w : World) (c : ℕ) (vs : List �
 
   short : e.next ≡ None → length e.replies ≤ 3
   short is =
-      let pl = placed D.object R.object e.point pt pt-is in
+      let pl = point_is_placed D.object R.object e.point pt pt-is in
       let a = (match_at D R pt.operation pl.operation pl.is).replies in
-      let b = (few D R pt.operation).1 in
+      let b = (arity_and_replies_few D R pt.operation).1 in
       let q = (return_is is).count in
       omega arith
 

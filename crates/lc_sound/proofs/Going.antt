@@ -19,7 +19,7 @@ use Rattle.lc_rider.specs.Paths.{Path, path_start}
 use Rattle.lc_cond.specs.Conditions.{Head, conditions_from, conditions_of, on_path, alone_on_path, duty_condition, Reply, Invariant, NextKind, hold_terms, justified, at_end, reply_goals, on_conditions}
 use Rattle.lc_sound.specs.Claims.{IsProven, IsGood}
 use Rattle.lc_sound.specs.Valid.{IsValid}
-use Rattle.lc_outline.proofs.Matched.{grounds}
+use Rattle.lc_outline.proofs.Matched.{op_branches_ground}
 use Rattle.lc_term.proofs.Stores.{Every_left, Every_right}
 use Rattle.lc_term.proofs.Symbolic.{columns_by, values_by, columns_by-put, each_told, each-append}
 use Rattle.lc_rider.proofs.Riding.{Along, along}
@@ -110,9 +110,9 @@ module _ (D : Development) (X : IsProven D) (n : ℕ) (w : World) (G : IsGood D 
   new_is = L.edge_variables_are s vs (Rattle.lc_object.specs.WellFormed.variable_count (L.op D X n w G c p vs at e among from facts)) e (L.good D X n w G c p vs at e among from facts).4
 
   -- the path that was gone
-  pub taken : Along D.specification.operations (first_system D) (grounds D X.resolved) s env τ Conds m
+  pub taken : Along D.specification.operations (first_system D) (op_branches_ground D X.resolved) s env τ Conds m
   taken =
-      along D.specification.operations (first_system D) (grounds D X.resolved) s env τ c (L.point D X n w G c p vs at e among from facts).operation ((λ i. variable (new_is i) 1) ∙ one) Conds 0 (riders_in (L.on D X n w G c p vs at e among from facts)) (path_start e) ms m (tt, tt)
+      along D.specification.operations (first_system D) (op_branches_ground D X.resolved) s env τ c (L.point D X n w G c p vs at e among from facts).operation ((λ i. variable (new_is i) 1) ∙ one) Conds 0 (riders_in (L.on D X n w G c p vs at e among from facts)) (path_start e) ms m (tt, tt)
       (subst (λ x. RideAll D.specification.operations (first_system D) c (L.point D X n w G c p vs at e among from facts).operation (variable x) (columns_by s env (path_start e).columns) (riders_in (L.on D X n w G c p vs at e among from facts)) ms m) (sym new_is)
       (subst (λ x. RideAll D.specification.operations (first_system D) c (L.point D X n w G c p vs at e among from facts).operation (variable new) x (riders_in (L.on D X n w G c p vs at e among from facts)) ms m) (sym (L.edge_columns_are s vs e)) ride))
       (L.all_conditions D X n w G c p vs at e among from facts)

@@ -18,7 +18,7 @@ use Rattle.lc_object.specs.Places.{operation_in}
 use Rattle.lc_outline.specs.Development.{Development, first_system, on_at}
 use Rattle.lc_outline.specs.Resolved.{IsOnResolved}
 use Rattle.lc_sound.specs.Claims.{IsProven, IsClientGood}
-use Rattle.lc_machine.proofs.Bodies.{placed, does_outside}
+use Rattle.lc_machine.proofs.Bodies.{point_is_placed, does_outside}
 use Rattle.lc_sound.proofs.Frames.{Kept}
 use Rattle.lc_sound.proofs.Lifting.{AreBehind, edge_targets, assigned_other}
 
@@ -57,23 +57,23 @@ to object op l q next h e f = let same : l ≡ q = same_Some l q (sym e ∙ f) i
 next_of : (e x : Edge) → e ≡ x → e.next ≡ x.next
 next_of e x is = ap (λ (y : Edge). y.next) is
 
-pub led : (object : Object) (p op : ℕ) (o : Operation) (i : Instr) (e : Edge) → is_instruction object op o i ≡ true → IsIn e (edges_at object p i) → (q : ℕ) → e.next ≡ Some q → Led object op q
-led object p op o (Load a t rs l) e h (inl is) q n = to object op l q e.next (right_true _ _ h) (next_of e _ is) n
-led object p op o (Load a t rs l) e h (inr none) q n = absurd none
-led object p op o (Store a t us l) e h (inl is) q n = to object op l q e.next (right_true _ _ h) (next_of e _ is) n
-led object p op o (Store a t us l) e h (inr none) q n = absurd none
-led object p op o (Cas a t old new l m) e h (inl is) q n = to object op l q e.next (right_true _ _ (left_true _ _ h)) (next_of e _ is) n
-led object p op o (Cas a t old new l m) e h (inr (inl is)) q n = to object op m q e.next (right_true _ _ h) (next_of e _ is) n
-led object p op o (Cas a t old new l m) e h (inr (inr none)) q n = absurd none
-led object p op o (Set rs us l) e h (inl is) q n = to object op l q e.next (right_true _ _ h) (next_of e _ is) n
-led object p op o (Set rs us l) e h (inr none) q n = absurd none
-led object p op o (Faa a t rs ds l) e h (inl is) q n = to object op l q e.next (right_true _ _ h) (next_of e _ is) n
-led object p op o (Faa a t rs ds l) e h (inr none) q n = absurd none
-led object p op o (If f l m) e h (inl is) q n = to object op l q e.next (right_true _ _ (left_true _ _ h)) (next_of e _ is) n
-led object p op o (If f l m) e h (inr (inl is)) q n = to object op m q e.next (right_true _ _ h) (next_of e _ is) n
-led object p op o (If f l m) e h (inr (inr none)) q n = absurd none
-led object p op o (Return us) e h (inl is) q n = absurd (cc (sym (next_of e _ is) ∙ n))
-led object p op o (Return us) e h (inr none) q n = absurd none
+pub edge_led_to : (object : Object) (p op : ℕ) (o : Operation) (i : Instr) (e : Edge) → is_instruction object op o i ≡ true → IsIn e (edges_at object p i) → (q : ℕ) → e.next ≡ Some q → Led object op q
+edge_led_to object p op o (Load a t rs l) e h (inl is) q n = to object op l q e.next (right_true _ _ h) (next_of e _ is) n
+edge_led_to object p op o (Load a t rs l) e h (inr none) q n = absurd none
+edge_led_to object p op o (Store a t us l) e h (inl is) q n = to object op l q e.next (right_true _ _ h) (next_of e _ is) n
+edge_led_to object p op o (Store a t us l) e h (inr none) q n = absurd none
+edge_led_to object p op o (Cas a t old new l m) e h (inl is) q n = to object op l q e.next (right_true _ _ (left_true _ _ h)) (next_of e _ is) n
+edge_led_to object p op o (Cas a t old new l m) e h (inr (inl is)) q n = to object op m q e.next (right_true _ _ h) (next_of e _ is) n
+edge_led_to object p op o (Cas a t old new l m) e h (inr (inr none)) q n = absurd none
+edge_led_to object p op o (Set rs us l) e h (inl is) q n = to object op l q e.next (right_true _ _ h) (next_of e _ is) n
+edge_led_to object p op o (Set rs us l) e h (inr none) q n = absurd none
+edge_led_to object p op o (Faa a t rs ds l) e h (inl is) q n = to object op l q e.next (right_true _ _ h) (next_of e _ is) n
+edge_led_to object p op o (Faa a t rs ds l) e h (inr none) q n = absurd none
+edge_led_to object p op o (If f l m) e h (inl is) q n = to object op l q e.next (right_true _ _ (left_true _ _ h)) (next_of e _ is) n
+edge_led_to object p op o (If f l m) e h (inr (inl is)) q n = to object op m q e.next (right_true _ _ h) (next_of e _ is) n
+edge_led_to object p op o (If f l m) e h (inr (inr none)) q n = absurd none
+edge_led_to object p op o (Return us) e h (inl is) q n = absurd (cc (sym (next_of e _ is) ∙ n))
+edge_led_to object p op o (Return us) e h (inr none) q n = absurd none
 
 -- ---- all of it
 
@@ -93,13 +93,13 @@ pub record Gone (D : Development) (n : ℕ) (s s' : State) (c p : ℕ) (vs : Lis
   pub code : is_instruction D.object point.operation op point.instruction ≡ true
   pub target : (q : ℕ) → edge.next ≡ Some q → (pt : Point) × (slice_get D.object.points q ≡ Some pt) × (pt.operation ≡ point.operation)
 
-pub gone : (D : Development) (X : IsProven D) (n : ℕ) (s s' : State) (c p : ℕ) (vs : List ℤ) (kind : EdgeKind) (out : Outcome) (good : IsClientGood D n s c (In p vs)) → Does D.object s vs (good.0).instruction kind s' out →
+pub done_is_gone : (D : Development) (X : IsProven D) (n : ℕ) (s s' : State) (c p : ℕ) (vs : List ℤ) (kind : EdgeKind) (out : Outcome) (good : IsClientGood D n s c (In p vs)) → Does D.object s vs (good.0).instruction kind s' out →
     Gone D n s s' c p vs good.0 good.1 kind out
-gone D X n s s' c p vs kind out good done =
+done_is_gone D X n s s' c p vs kind out good done =
     let R = X.resolved in
     let g = by_edge D.object R.object p good.0 good.2 s s' vs kind out done in
     let e : Edge = g.0 in
-    let pl = placed D.object R.object p good.0 good.2 in
+    let pl = point_is_placed D.object R.object p good.0 good.2 in
     let same : pl.operation ≡ good.1 = same_Some pl.operation good.1 (sym pl.is ∙ good.3) in
     let code = subst (λ o. is_instruction D.object (good.0).operation o (good.0).instruction ≡ true) same pl.instruction in
     let here = edge_here D.object e p good.0 g.1.0 g.1.1 good.2 in
@@ -124,5 +124,5 @@ gone D X n s s' c p vs kind out good done =
       one = assigned_other vs e.targets (numbers s vs e.values) (2 + length (good.1).arguments) 1 targets (omega arith) ∙ good.6;
       here = here;
       code = code;
-      target = led D.object p (good.0).operation good.1 (good.0).instruction e code here;
+      target = edge_led_to D.object p (good.0).operation good.1 (good.0).instruction e code here;
     }

@@ -10,7 +10,7 @@ use Rattle.lc_object.specs.declared.instr.EdgeKind.{EdgeKind}
 use Rattle.lc_object.specs.declared.instr.EdgeKind.TheVariants.{Next}
 use Rattle.lc_machine.specs.World.{In, World}
 use Rattle.lc_machine.specs.Step.{Event, Invoked, Moved, Returned, Goes, Answers}
-use Rattle.lc_machine.proofs.Bodies.{placed, answers_next}
+use Rattle.lc_machine.proofs.Bodies.{point_is_placed, answers_next}
 use Rattle.lc_action.specs.Action.{Action, skip, enter, leave}
 use Rattle.lc_rider.specs.Rider.{Mark, argument}
 use Rattle.lc_outline.specs.Development.{Development, On, first_system, on_at}
@@ -72,7 +72,7 @@ module _ (D : Development) (X : IsProven D) (n : ℕ) (w : World) (G : IsGood D 
       let e : Edge = g.edge in
       let there_fits : Fits D (on_at D e.point e.kind) = fits D (G.each_client c (In p vs) running.client).0.operation e (on_at D e.point e.kind) g.resolved in
       let here_fits : Fits D (on_at D p k) = subst (λ (j : EdgeKind). Fits D (on_at D p j)) g.kind_is (subst (λ q. Fits D (on_at D q e.kind)) g.from there_fits) in
-      let pl = placed D.object X.resolved.object p running.code.0 running.code.1 in
+      let pl = point_is_placed D.object X.resolved.object p running.code.0 running.code.1 in
       let next : k ≡ Next = answers_next D.object (running.code.0).operation pl.operation w.columns vs k s' i ns done in
       let acts = step_acts D X n w G c v (Returned ns) marks (mid, point, variables, m, isc, (p, vs, i, running, k, s', done, mid-is), ride, just, v-is) in
       let same : In p vs ≡ In acts.0 acts.1 = same_Some (In p vs) (In acts.0 acts.1) (sym running.client ∙ acts.2) in
@@ -80,5 +80,5 @@ module _ (D : Development) (X : IsProven D) (n : ℕ) (w : World) (G : IsGood D 
       let next_fits : Fits D (on_at D p Next) = subst (λ (j : EdgeKind). Fits D (on_at D p j)) next here_fits in
       of_edge D n c w.columns v.columns acts.1 (on_at D acts.0 Next) (Returned ns) (subst (λ q. Fits D (on_at D q Next)) is-p next_fits) acts.3
 
-pub guaranteed : StepsAreInGuarantees
-guaranteed D X n labels w w' run c what marks step = of_step D X n w (good_run D X n labels (start_world D n) w (C.start_good D X n) run) c w' what marks step
+pub steps_in_guarantees : StepsAreInGuarantees
+steps_in_guarantees D X n labels w w' run c what marks step = of_step D X n w (good_run D X n labels (start_world D n) w (C.start_good D X n) run) c w' what marks step

@@ -5,12 +5,12 @@ use Rattle.lc_hist.specs.History.{Linearizes}
 use Rattle.lc_sound.specs.Instrumented.{bare_history}
 use Rattle.lc_sound.specs.Order.{order}
 use Rattle.lc_sound.specs.Claims.{RunsAreSimulated, Headline}
-use Rattle.lc_sound.proofs.Ordered.{ordered}
+use Rattle.lc_sound.proofs.Ordered.{orders_do_linearize}
 
-pub headline : RunsAreSimulated → Headline
-headline simulated D proven clients labels run =
+pub headline_if_simulated : RunsAreSimulated → Headline
+headline_if_simulated simulated D proven clients labels run =
     let over = simulated D proven clients labels run.0 run.1 in (
       order over.labels,
       subst (λ h. Linearizes (text_step D.specification.operations) (start_of D.specification.columns) h (order over.labels)) (ap bare_history over.same)
-          (ordered D proven.resolved clients over.labels over.world over.run),
+          (orders_do_linearize D proven.resolved clients over.labels over.world over.run),
     )

@@ -82,5 +82,5 @@ four = (
   refl,
 )
 
-pub helped : HelpedCall
-helped = ((with_columns m4 c4, (u1, one, (u2, two, (u3, three, (with_columns m4 c4, four, refl))))), refl, refl)
+pub call_is_helped : HelpedCall
+call_is_helped = ((with_columns m4 c4, (u1, one, (u2, two, (u3, three, (with_columns m4 c4, four, refl))))), refl, refl)

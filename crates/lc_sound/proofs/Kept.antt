@@ -64,10 +64,10 @@ kept_away c p (Marked false entry) hs e rest = rw e rest
 kept_away c p (Marked true entry) hs e rest =
     rw e (note_away c (call_in p) (events hs) entry (counted hs) (entered p (returns_next c hs)) e (returns_next entry.client hs) rest)
 
-pub kept : (c : ℕ) (p : Phase) (hs : List Happening) → IsOwn c p hs → AreCalls c (call_in p) (events hs) (entered p (returns_next c hs) ++ entries_of c (counted hs))
-kept c p [] law = kept_end c p
-kept c p (h ∷ hs) law =
-    let rest = kept c law.0 hs law.2 in
+pub entries_are_calls : (c : ℕ) (p : Phase) (hs : List Happening) → IsOwn c p hs → AreCalls c (call_in p) (events hs) (entered p (returns_next c hs) ++ entries_of c (counted hs))
+entries_are_calls c p [] law = kept_end c p
+entries_are_calls c p (h ∷ hs) law =
+    let rest = entries_are_calls c law.0 hs law.2 in
     elim law.1 [
       | inl l ↦ kept_here c p law.0 h hs l.1 l.0 rest
       | inr l ↦ kept_away c p h hs l.0 (subst (λ q. IsKept c q hs) l.1 rest)

@@ -10,12 +10,12 @@ with_or_without : {A : Type 0} (step : Sequential A) (s : A) (e : Entry) (es : L
 with_or_without step s e es is rest true = (s, is, rest)
 with_or_without step s e es is rest false = rest
 
-pub legal : {A : Type 0} (step : Sequential A) (hs : List Happening) (s : A) (phases : ℕ → Phase) → IsLawful step s phases hs → IsLegal step s (counted hs)
-legal step [] s phases law = tt
-legal step (Happens event ∷ hs) s phases law =
-    subst (λ t. IsLegal step t (counted hs)) law.3 (legal step hs law.1 (put phases (client_of (Happens event)) law.0) law.4)
-legal step (Marked false e ∷ hs) s phases law = (law.1, law.3, legal step hs law.1 (put phases e.client law.0) law.4)
-legal step (Marked true e ∷ hs) s phases law =
+pub lawful_is_legal : {A : Type 0} (step : Sequential A) (hs : List Happening) (s : A) (phases : ℕ → Phase) → IsLawful step s phases hs → IsLegal step s (counted hs)
+lawful_is_legal step [] s phases law = tt
+lawful_is_legal step (Happens event ∷ hs) s phases law =
+    subst (λ t. IsLegal step t (counted hs)) law.3 (lawful_is_legal step hs law.1 (put phases (client_of (Happens event)) law.0) law.4)
+lawful_is_legal step (Marked false e ∷ hs) s phases law = (law.1, law.3, lawful_is_legal step hs law.1 (put phases e.client law.0) law.4)
+lawful_is_legal step (Marked true e ∷ hs) s phases law =
     with_or_without step s e (counted hs) law.3.1
-    (subst (λ t. IsLegal step t (counted hs)) law.3.0 (legal step hs law.1 (put phases e.client law.0) law.4))
+    (subst (λ t. IsLegal step t (counted hs)) law.3.0 (lawful_is_legal step hs law.1 (put phases e.client law.0) law.4))
     (returns_next e.client hs)

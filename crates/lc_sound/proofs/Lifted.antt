@@ -19,7 +19,7 @@ use Rattle.lc_sound.specs.Instrumented.{Label, Runs, start_world, with_columns, 
 use Rattle.lc_sound.specs.Claims.{IsProven, IsGood, IsLifted, BareStepsLift, RunsAreSimulated, Headline}
 use Rattle.lc_term.proofs.Stores.{writes_other}
 use Rattle.lc_sound.proofs.RowChanges.{invocation_behind}
-use Rattle.lc_outline.proofs.Matched.{match_at, few}
+use Rattle.lc_outline.proofs.Matched.{match_at, arity_and_replies_few}
 use Rattle.lc_sound.proofs.Going.{justified_is}
 use Rattle.lc_machine.proofs.Over.{Agree, IsStepOver, step_over}
 use Rattle.lc_sound.proofs.Leaving.{behind_other, rides_leave, return_edge, code_values}
@@ -27,9 +27,9 @@ use Rattle.lc_sound.proofs.Lifting as L
 use Rattle.lc_sound.proofs.Going as Y
 use Rattle.lc_sound.proofs.Arrived.{only_kept}
 use Rattle.lc_sound.proofs.Calling as C
-use Rattle.lc_sound.proofs.Simulated.{at_edge, went, returned, riders-are, from_edge, good_run, good_step}
+use Rattle.lc_sound.proofs.Simulated.{at_edge, goes_where_reached, answers_when_reached, riders-are, from_edge, good_run, good_step}
 use Rattle.lc_sound.proofs.Standing.{own_of, to_own, start_over}
-use Rattle.lc_sound.proofs.Headline.{headline}
+use Rattle.lc_sound.proofs.Headline.{headline_if_simulated}
 
 module _ (D : Development) (X : IsProven D) (n : ℕ) (w b : World) (G : IsGood D n w) (over : IsOver D w b) (c : ℕ) where
   agree : Agree D.object b.columns w.columns
@@ -55,7 +55,7 @@ module _ (D : Development) (X : IsProven D) (n : ℕ) (w b : World) (G : IsGood 
           let at = running.client in
           let g = at_edge D X n w G c p vs i k s' (Goes next new) running done in
           let e : Edge = g.edge in
-          let by = went w.columns vs e next new e.next g.outcome in
+          let by = goes_where_reached w.columns vs e next new e.next g.outcome in
           let res = riders-are D (G.each_client c (In p vs) at).0.operation e (on_at D e.point e.kind) g.resolved in
           let r = L.rides_on D X n w G c p vs at e g.among g.from g.facts res (only_kept (first_system D) n w.columns (updated w.columns vs w.columns e.updates) g.steady G.only) g.one in
           let mid-cols : mid.columns ≡ s' = ap (λ (y : World). y.columns) mid-is in
@@ -87,20 +87,20 @@ module _ (D : Development) (X : IsProven D) (n : ℕ) (w b : World) (G : IsGood 
           let at = running.client in
           let g = at_edge D X n w G c p vs i k s' (Answers ns) running done in
           let e : Edge = g.edge in
-          let by = returned w.columns vs e ns e.next g.outcome in
+          let by = answers_when_reached w.columns vs e ns e.next g.outcome in
           let ret = return_edge D.object p (G.each_client c (In p vs) at).0.operation (G.each_client c (In p vs) at).1 (G.each_client c (In p vs) at).0.instruction e g.code g.here by.0 in
           let still : vs ≡ assigned vs e.targets (numbers w.columns vs e.values) = ap (λ rs. assigned vs rs (numbers w.columns vs e.values)) (sym ret.targets) in
           let res = riders-are D (G.each_client c (In p vs) at).0.operation e (on_at D e.point e.kind) g.resolved in
           let r = L.rides_on D X n w G c p vs at e g.among g.from g.facts res (only_kept (first_system D) n w.columns (updated w.columns vs w.columns e.updates) g.steady G.only) g.one in
           let mid-cols : mid.columns ≡ s' = ap (λ (y : World). y.columns) mid-is in
-          let pl = Rattle.lc_machine.proofs.Bodies.placed D.object X.resolved.object p running.code.0 running.code.1 in
+          let pl = Rattle.lc_machine.proofs.Bodies.point_is_placed D.object X.resolved.object p running.code.0 running.code.1 in
           let next : k ≡ Next = Rattle.lc_machine.proofs.Bodies.answers_next D.object (running.code.0).operation pl.operation w.columns vs k s' i ns done in
           let ride1 = from_edge D X n w G c p vs k s' (Answers ns) at g vs r.0 r.1 still r.2 in
           let ride = subst (λ j. RideAll D.specification.operations (first_system D) c (Rattle.lc_object.specs.Places.operation_at D.object p) (variable vs) s' (Rattle.lc_outline.specs.Development.riders_at D p j) r.0 r.1) next ride1 in
           let said = Y.replied D X n w G c p vs at e g.among g.from g.facts r.0 r.1 g.one r.2 in
           let goal : EachHolds r.1 (variable (assigned vs e.targets (numbers w.columns vs e.values))) (justified (first_system D) e.replies ∷ []) =
           subst (λ (nx : Option ℕ). EachHolds r.1 (variable (assigned vs e.targets (numbers w.columns vs e.values))) (elim nx as (λ x. List Rattle.lc_term.specs.Syntax.Formula) [ Some q ↦ [] | None ↦ justified (first_system D) e.replies ∷ [] ])) by.0 said in
-          let short : length e.replies ≤ 3 = (let m = (match_at D X.resolved (G.each_client c (In p vs) at).0.operation (G.each_client c (In p vs) at).1 (G.each_client c (In p vs) at).3).replies in let f = (few D X.resolved (G.each_client c (In p vs) at).0.operation).1 in let q = ret.count in omega arith) in
+          let short : length e.replies ≤ 3 = (let m = (match_at D X.resolved (G.each_client c (In p vs) at).0.operation (G.each_client c (In p vs) at).1 (G.each_client c (In p vs) at).3).replies in let f = (arity_and_replies_few D X.resolved (G.each_client c (In p vs) at).0.operation).1 in let q = ret.count in omega arith) in
           let just : IsJustified (first_system D) r.1 c (values_of r.1 (variable (assigned vs e.targets (numbers w.columns vs e.values))) e.replies) =
           justified_is (first_system D) r.1 (variable (assigned vs e.targets (numbers w.columns vs e.values))) c e.replies g.one short goal.0 in
           let same : values_of r.1 (variable (assigned vs e.targets (numbers w.columns vs e.values))) e.replies ≡ ns =
@@ -133,8 +133,8 @@ module _ (D : Development) (X : IsProven D) (n : ℕ) (w b : World) (G : IsGood 
   pub lifted : (what : Event) (b' : World) → Steps D.object b c what b' → IsLifted D w c what b'
   lifted what b' s = by_event what b' (step_over D.object X.resolved.object b w (sym over.clients) agree c what b' s)
 
-pub lifts : BareStepsLift
-lifts D X n ls w b run over c what b' s = lifted D X n w b (good_run D X n ls (start_world D n) w (C.start_good D X n) run) over c what b' s
+pub bare_steps_lift : BareStepsLift
+bare_steps_lift D X n ls w b run over c what b' s = lifted D X n w b (good_run D X n ls (start_world D n) w (C.start_good D X n) run) over c what b' s
 
 over_run : (D : Development) (X : IsProven D) (n : ℕ) (ls : List BareLabel) (w b end : World) → IsGood D n w → IsOver D w b → BareRuns D.object b ls end →
     (labels : List Label) × (v : World) × Runs D w labels v × (map unmarked labels ≡ ls) × IsOver D v end
@@ -144,10 +144,10 @@ over_run D X n (l ∷ ls) w b end G over (mid, step, rest) =
     let y = over_run D X n ls x.to mid end (good_step D X n w G l.client x.to l.what x.marks x.step) x.over rest in
     (record { client = l.client; what = l.what; marks = x.marks } ∷ y.0, y.1, (x.to, x.step, y.2), ap (λ zs. l ∷ zs) y.3, y.4)
 
-pub simulated : RunsAreSimulated
-simulated D X n ls b run =
+pub runs_are_simulated : RunsAreSimulated
+runs_are_simulated D X n ls b run =
     let y = over_run D X n ls (start_world D n) (initial_world D.object n) b (C.start_good D X n) (start_over D X.resolved n) run in
     record { labels = y.0; world = y.1; run = y.2; same = y.3; over = y.4 }
 
-pub proved : Headline
-proved = headline simulated
+pub headline_is_proved : Headline
+headline_is_proved = headline_if_simulated runs_are_simulated

@@ -21,7 +21,7 @@ use Rattle.lc_cond.specs.Counter.{counter_specification, racy_object}
 use Rattle.lc_sound.specs.Instrumented.{bare_history}
 use Rattle.lc_sound.specs.Examples.{lost_labels, LostUpdateIsNeverProven}
 use Rattle.lc_term.proofs.Stores.{same_self}
-use Rattle.lc_sound.proofs.Lifted.{proved}
+use Rattle.lc_sound.proofs.Lifted.{headline_is_proved}
 
 -- ---- the run
 
@@ -196,4 +196,4 @@ not_linearizable (order, lin) = none_legal (start_of counter_specification.colum
 pub never_proven : LostUpdateIsNeverProven
 never_proven D specified code X =
     not_linearizable (subst (λ (q : Specification). IsLinearizable (text_step q.operations) (start_of q.columns) (bare_history lost_labels)) specified
-    (proved D X 2 lost_labels (subst (λ o. IsBareRun o 2 lost_labels) (sym code) lost_run)))
+    (headline_is_proved D X 2 lost_labels (subst (λ o. IsBareRun o 2 lost_labels) (sym code) lost_run)))

@@ -23,8 +23,8 @@ one_more : (D : Development) (u : World) (ls : List Label) (w v : World) (c : �
 one_more D u [] w v c what ms run step = (v, subst (λ x. Instrumented D x c what ms v) run step, refl)
 one_more D u (l ∷ ls) w v c what ms (mid, first, rest) step = (mid, first, one_more D mid ls w v c what ms rest step)
 
-pub extended : RunsExtend
-extended D n ls w v c what ms run step = one_more D (start_world D n) ls w v c what ms run step
+pub runs_extend : RunsExtend
+runs_extend D n ls w v c what ms run step = one_more D (start_world D n) ls w v c what ms run step
 
 -- ---- an instruction
 
@@ -100,8 +100,8 @@ same_done object w c p q vs us i j k l a b x y r t d f =
     let same = same_running object w c p q vs us i j r t in
     does_once object w.columns vs i k l a b x y d (subst (λ z. Does object w.columns vs z l b y) (sym same.2) (subst (λ zs. Does object w.columns zs j l b y) (sym same.1) f))
 
-pub determined : StepsAreDetermined
-determined D w c (Invoked o ns) (Invoked p us) ms ns' v v' alike (mid, (x, is, whole, idle, mid-is), none, v-is) (mid', (x', is', whole', idle', mid-is'), none', v-is') =
+pub steps_are_determined : StepsAreDetermined
+steps_are_determined D w c (Invoked o ns) (Invoked p us) ms ns' v v' alike (mid, (x, is, whole, idle, mid-is), none, v-is) (mid', (x', is', whole', idle', mid-is'), none', v-is') =
     let op : x ≡ x' = same_Some x x' (sym is ∙ (ap (slice_get D.object.operations) alike.0 ∙ is')) in
     let mids : mid ≡ mid' = mid-is ∙ ((λ i. after w w.columns c (In (op i).entry (first_variables (Rattle.std.specs.Prelude.length w.clients) c (op i) (alike.1 i)))) ∙ sym mid-is') in
     record {
@@ -109,11 +109,11 @@ determined D w c (Invoked o ns) (Invoked p us) ms ns' v v' alike (mid, (x, is, w
       marks = none ∙ sym none';
       world = v-is ∙ ((λ i. with_columns (mids i) (stored_all (mids i).columns (invocation_writes (first_system D) c (alike.0 i) (alike.1 i)))) ∙ sym v-is');
     }
-determined D w c (Invoked o ns) (Moved p k) ms ns' v v' alike step step' = absurd alike
-determined D w c (Invoked o ns) (Returned us) ms ns' v v' alike step step' = absurd alike
-determined D w c (Moved p k) (Invoked o us) ms ns' v v' alike step step' = absurd alike
-determined D w c (Returned ns) (Invoked o us) ms ns' v v' alike step step' = absurd alike
-determined D w c (Moved p k) (Moved q l) ms ns v v' alike (mid, there, variables, m, (vs, i, running, s, next, new, done, mid-is), isc, ride, v-is) (mid', there', variables', m', (vs', i', running', s', next', new', done', mid-is'), isc', ride', v-is') =
+steps_are_determined D w c (Invoked o ns) (Moved p k) ms ns' v v' alike step step' = absurd alike
+steps_are_determined D w c (Invoked o ns) (Returned us) ms ns' v v' alike step step' = absurd alike
+steps_are_determined D w c (Moved p k) (Invoked o us) ms ns' v v' alike step step' = absurd alike
+steps_are_determined D w c (Returned ns) (Invoked o us) ms ns' v v' alike step step' = absurd alike
+steps_are_determined D w c (Moved p k) (Moved q l) ms ns v v' alike (mid, there, variables, m, (vs, i, running, s, next, new, done, mid-is), isc, ride, v-is) (mid', there', variables', m', (vs', i', running', s', next', new', done', mid-is'), isc', ride', v-is') =
     let place = same_running D.object w c p q vs vs' i i' running running' in
     let did = same_done D.object w c p q vs vs' i i' k l s s' (Goes next new) (Goes next' new') running running' done done' in
     let to : next ≡ next' = cc did.2 in
@@ -127,11 +127,11 @@ determined D w c (Moved p k) (Moved q l) ms ns v v' alike (mid, there, variables
     (subst (λ z. RideAll D.specification.operations (first_system D) c (operation_at D.object z) (variable variables') mid'.columns (riders_at D z l) ns m') (sym place.0) ride'))) in
     let same = rides_once D.specification.operations (first_system D) c (operation_at D.object p) (variable variables) (riders_at D p k) mid.columns ms ns m m' ride rode in
     record { event = λ x. Moved (place.0 x) (did.0 x); marks = same.0; world = v-is ∙ ((λ x. with_columns (mids x) (same.1 x)) ∙ sym v-is') }
-determined D w c (Moved p k) (Returned us) ms ns v v' alike (mid, there, variables, m, (vs, i, running, s, next, new, done, mid-is), isc, ride, v-is) (mid', q', vars', m', isc', (q, vs', i', running', l, s', done', mid-is'), ride', just', v-is') =
+steps_are_determined D w c (Moved p k) (Returned us) ms ns v v' alike (mid, there, variables, m, (vs, i, running, s, next, new, done, mid-is), isc, ride, v-is) (mid', q', vars', m', isc', (q, vs', i', running', l, s', done', mid-is'), ride', just', v-is') =
     absurd (cc (same_done D.object w c p q vs vs' i i' k l s s' (Goes next new) (Answers us) running running' done done').2)
-determined D w c (Returned us) (Moved p k) ms ns v v' alike (mid', q', vars', m', isc', (q, vs', i', running', l, s', done', mid-is'), ride', just', v-is') (mid, there, variables, m, (vs, i, running, s, next, new, done, mid-is), isc, ride, v-is) =
+steps_are_determined D w c (Returned us) (Moved p k) ms ns v v' alike (mid', q', vars', m', isc', (q, vs', i', running', l, s', done', mid-is'), ride', just', v-is') (mid, there, variables, m, (vs, i, running, s, next, new, done, mid-is), isc, ride, v-is) =
     absurd (cc (same_done D.object w c q p vs' vs i' i l k s' s (Answers us) (Goes next new) running' running done' done).2)
-determined D w c (Returned xs) (Returned ys) ms ns v v' alike (mid, point, variables, m, isc, (p, vs, i, running, k, s, done, mid-is), ride, just, v-is) (mid', point', variables', m', isc', (q, vs', i', running', l, s', done', mid-is'), ride', just', v-is') =
+steps_are_determined D w c (Returned xs) (Returned ys) ms ns v v' alike (mid, point, variables, m, isc, (p, vs, i, running, k, s, done, mid-is), ride, just, v-is) (mid', point', variables', m', isc', (q, vs', i', running', l, s', done', mid-is'), ride', just', v-is') =
     let did = same_done D.object w c p q vs vs' i i' k l s s' (Answers xs) (Answers ys) running running' done done' in
     let numbers : xs ≡ ys = cc did.2 in
     let mids : mid ≡ mid' = mid-is ∙ ((λ x. after w (did.1 x) c Idle) ∙ sym mid-is') in

@@ -18,7 +18,7 @@ use Rattle.lc_sound.specs.Order.{happenings, no_call, order}
 use Rattle.lc_sound.specs.Lawful.{Free, IsLawful}
 use Rattle.lc_seq.proofs.Abstract.{abstract_of, of_below}
 use Rattle.lc_term.proofs.Stores.{if_false}
-use Rattle.lc_sound.proofs.Linearized.{linearized}
+use Rattle.lc_sound.proofs.Linearized.{lawful_linearizes}
 use Rattle.lc_sound.proofs.Book.{Tells, AllStand}
 use Rattle.lc_sound.proofs.Steps.{lawful, events_are}
 
@@ -63,12 +63,12 @@ all_idle object zero d = refl
 all_idle object (suc clients) zero = refl
 all_idle object (suc clients) (suc d) = all_idle object clients d
 
-pub ordered : OrdersLinearize
-ordered D R clients labels end run =
+pub orders_do_linearize : OrdersLinearize
+orders_do_linearize D R clients labels end run =
     let hs : List Happening = happenings (λ _. no_call) labels in
     let tells : Tells D R (λ c. Free) (λ _. no_call) (start_columns D) = record { matches = λ c. system_start D (first_system D) (pos c) (omega arith); is_last = λ c call e. absurd cc } in
     let law : IsLawful (text_step D.specification.operations) (start_of D.specification.columns) (λ c. Free) hs =
     subst (λ a. IsLawful (text_step D.specification.operations) a (λ c. Free) hs) (start_abstract D)
     (lawful D R labels (λ _. no_call) (λ c. Free) (start_world D clients) end tells (all_idle D.object clients) run) in
     subst (λ h. Linearizes (text_step D.specification.operations) (start_of D.specification.columns) h (order labels)) (events_are labels (λ _. no_call))
-    (linearized (text_step D.specification.operations) (start_of D.specification.columns) hs law)
+    (lawful_linearizes (text_step D.specification.operations) (start_of D.specification.columns) hs law)

@@ -18,7 +18,7 @@ use Rattle.lc_object.specs.declared.instr.EdgeKind.{EdgeKind}
 use Rattle.lc_object.specs.declared.instr.EdgeKind.TheVariants.{Next}
 use Rattle.lc_machine.specs.Step.{Event, Invoked, Moved, Returned, IsClient, Does, Goes, Answers, Outcome, numbers}
 use Rattle.lc_machine.specs.World.{Client, Idle, In, World, first_variables}
-use Rattle.lc_machine.proofs.Bodies.{placed, answers_next, does_outside}
+use Rattle.lc_machine.proofs.Bodies.{point_is_placed, answers_next, does_outside}
 use Rattle.lc_machine.proofs.EdgeLaw.{by_edge}
 use Rattle.lc_rider.specs.PathLaws.{OnlyClients}
 use Rattle.lc_rider.specs.Rider.{Mark, RideAll, invocation_writes, return_writes}
@@ -35,7 +35,7 @@ use Rattle.lc_sound.proofs.Ordered.{system_start}
 use Rattle.lc_sound.proofs.Own.{same_client}
 use Rattle.lc_sound.proofs.Rideable.{at_other}
 use Rattle.lc_sound.proofs.RowChanges.{AreAt, invocation_at}
-use Rattle.lc_sound.proofs.Simulated.{went}
+use Rattle.lc_sound.proofs.Simulated.{goes_where_reached}
 
 -- what riders keep
 kept_calls : (first : ℕ) (s m : State) → Kept first s m → OnlyClients first s → OnlyClients first m
@@ -86,9 +86,9 @@ module _ (D : Development) (R : IsResolved D) where
     done_own q new done =
         let g = by_edge D.object R.object p pt at s s' vs k (Goes q new) done in
         let e : Edge = g.0 in
-        let pl = placed D.object R.object p pt at in
+        let pl = point_is_placed D.object R.object p pt at in
         let targets = edge_targets D.object p pt.operation pl.operation pt.instruction e pl.instruction (edge_here D.object e p pt g.1.0 g.1.1 at) in
-        ap (λ us. variable us 1) (went s vs e q new e.next g.2.2).1 ∙ assigned_other vs e.targets (numbers s vs e.values) (2 + length (pl.operation).arguments) 1 targets (omega arith)
+        ap (λ us. variable us 1) (goes_where_reached s vs e q new e.next g.2.2).1 ∙ assigned_other vs e.targets (numbers s vs e.values) (2 + length (pl.operation).arguments) 1 targets (omega arith)
 
   stepped : (w v : World) (c : ℕ) (what : Event) (ms : List Mark) → IsOrdinary D w → Instrumented D w c what ms v → IsOrdinary D v
   stepped w v c (Invoked o ns) ms O (mid, (x, is, whole, idle, mid-is), none, v-is) =
@@ -113,7 +113,7 @@ module _ (D : Development) (R : IsResolved D) where
       let client : In point variables ≡ In p vs = same_Some (In point variables) (In p vs) (sym isc ∙ running.client) in
       let is-p : p ≡ point = sym (cc client) in
       let gone = subst (λ j. Does D.object w.columns vs j k s' (Answers ns)) (sym running.code.2) done in
-      let next : k ≡ Next = answers_next D.object pt.operation (placed D.object R.object p pt running.code.1).operation w.columns vs k s' pt.instruction ns gone in
+      let next : k ≡ Next = answers_next D.object pt.operation (point_is_placed D.object R.object p pt running.code.1).operation w.columns vs k s' pt.instruction ns gone in
       let ride' = subst (λ a. RideAll D.specification.operations first c (operation_at D.object point) (variable variables) a (riders_at D point Next) ms m) (ap (λ (y : World). y.columns) mid-is) ride in
       let resolved = subst (λ X. X) (λ j. Rattle.lc_term.specs.Lists.Every (Rattle.lc_outline.specs.Resolved.IsRiderResolved D (operation_at D.object (is-p j))) (riders_at D (is-p j) (next j))) (riders_resolved D R w.columns s' vs p pt k (Answers ns) running.code.1 gone) in
       let kept = Kept_rides D R c (operation_at D.object point) (variable variables) (riders_at D point Next) s' m ms resolved ride' in

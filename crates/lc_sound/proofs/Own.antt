@@ -42,7 +42,7 @@ own_step step h hs s phases c law rest false e = (
   subst (λ p. IsOwn c p hs) (put_away phases (client_of h) law.0 c (flip_test (client_of h) c false e)) rest,
 )
 
-pub own : {A : Type 0} (step : Sequential A) (hs : List Happening) (s : A) (phases : ℕ → Phase) (c : ℕ) → IsLawful step s phases hs → IsOwn c (phases c) hs
-own step [] s phases c law = tt
-own step (h ∷ hs) s phases c law =
-    own_step step h hs s phases c law (own step hs law.1 (put phases (client_of h) law.0) c law.4) (client_of h == c) refl
+pub lawful_is_own : {A : Type 0} (step : Sequential A) (hs : List Happening) (s : A) (phases : ℕ → Phase) (c : ℕ) → IsLawful step s phases hs → IsOwn c (phases c) hs
+lawful_is_own step [] s phases c law = tt
+lawful_is_own step (h ∷ hs) s phases c law =
+    own_step step h hs s phases c law (lawful_is_own step hs law.1 (put phases (client_of h) law.0) c law.4) (client_of h == c) refl

@@ -23,7 +23,7 @@ use Rattle.lc_term.specs.Syntax.{Number}
 use Rattle.lc_outline.specs.Resolved.{IsNonempty, IsResolved, IsRiderResolved, IsDeedResolved, IsConditionResolved}
 use Rattle.lc_term.proofs.Stores.{Every_left, Every_right, if_true, if_false, stored-append, writes_other, writes_away}
 use Rattle.lc_seq.proofs.Abstract.{run_is}
-use Rattle.lc_outline.proofs.Matched.{grounds, branches_resolved, replies_resolved}
+use Rattle.lc_outline.proofs.Matched.{op_branches_ground, branches_resolved, replies_resolved}
 use Rattle.lc_sound.proofs.RowChanges.{AreAt, AreFirst, mark_at, note_at}
 use Rattle.lc_term.proofs.Symbolic.{values_by, columns_by-put, columns_by-after, write-said, value-said, Holds-told}
 use Rattle.lc_rider.proofs.Riding.{Every-concat, v, st, Facts, terms, marked_variables, choice, branches, branches_ground, marked_env, marked_env_is, one_more, client, with_duties, settled_writes, noted_writes}
@@ -56,10 +56,10 @@ only_after column n few x m ws sys le only one fi at i = by (int_eq (pos x) i) r
 
 module _ (D : Development) (R : IsResolved D) (s : State) (e : Env) (τ : List Term) (n : ℕ) where
   abbrev S : Path → State
-  S p = st D.specification.operations (first_system D) (grounds D R) s e τ p
+  S p = st D.specification.operations (first_system D) (op_branches_ground D R) s e τ p
 
   abbrev F : Path → Type 0
-  F p = Facts D.specification.operations (first_system D) (grounds D R) s e τ p
+  F p = Facts D.specification.operations (first_system D) (op_branches_ground D R) s e τ p
 
   abbrev ops' : List Operation
   ops' = D.specification.operations
@@ -69,20 +69,20 @@ module _ (D : Development) (R : IsResolved D) (s : State) (e : Env) (τ : List T
 
   -- the variables of a branch, for a choice
   abbrev U : ℕ → Chosen Term → Path → Term → List Term
-  U p by q c = marked_variables D.specification.operations (first_system D) (grounds D R) s e τ p q c (terms D.specification.operations (first_system D) (grounds D R) s e τ by q)
+  U p by q c = marked_variables D.specification.operations (first_system D) (op_branches_ground D R) s e τ p q c (terms D.specification.operations (first_system D) (op_branches_ground D R) s e τ by q)
 
   -- the numbers of a choice, and the branches that it leaves
   abbrev H : Chosen Term → Path → Choice
-  H by q = choice D.specification.operations (first_system D) (grounds D R) s e τ by q
+  H by q = choice D.specification.operations (first_system D) (op_branches_ground D R) s e τ by q
 
   abbrev Bs : ℕ → Chosen Term → List Branch
-  Bs p by = branches D.specification.operations (first_system D) (grounds D R) s e τ p by
+  Bs p by = branches D.specification.operations (first_system D) (op_branches_ground D R) s e τ p by
 
   abbrev E : ℕ → ℕ → Chosen Term → Path → Env
-  E p x by q = marked_env D.specification.operations (first_system D) (grounds D R) s e τ p x by q
+  E p x by q = marked_env D.specification.operations (first_system D) (op_branches_ground D R) s e τ p x by q
 
   abbrev W : ℕ → Marking → ℕ → Chosen Term → Path → Term → Path
-  W j k p by q c = with_duties D.specification.operations (first_system D) (grounds D R) s e τ j k p by q c
+  W j k p by q c = with_duties D.specification.operations (first_system D) (op_branches_ground D R) s e τ j k p by q c
 
   abbrev pub Met : Duty → Type 0
   Met d = EachHolds s e d.facts → Holds s e outside d.goal
@@ -99,7 +99,7 @@ module _ (D : Development) (R : IsResolved D) (s : State) (e : Env) (τ : List T
   some_deed : (P : Path → Type 0) (j o : ℕ) (d : Deed) (q : Path) → IsDeedResolved D o d → Every P (deed_paths ops' first' j o τ d q) → (x : Path) × (P x × (AllMet x → AllMet q))
   some_deed P j o (Assign u) q h r = (_, (r.0, λ x. x))
   some_deed P j o (Marks k by) q h r =
-      let y = some_branch P j k (U (marked_op o k) by q (client D.specification.operations (first_system D) (grounds D R) s e τ k q)) (Bs (marked_op o k) by) (W j k (marked_op o k) by q (client D.specification.operations (first_system D) (grounds D R) s e τ k q)) h r in
+      let y = some_branch P j k (U (marked_op o k) by q (client D.specification.operations (first_system D) (op_branches_ground D R) s e τ k q)) (Bs (marked_op o k) by) (W j k (marked_op o k) by q (client D.specification.operations (first_system D) (op_branches_ground D R) s e τ k q)) h r in
       (y.0, (y.1.0, λ x. Every_left Met q.duties _ (y.1.1 x)))
 
   some_way : (P : Path → Type 0) (j o : ℕ) (c : Option Formula) (d : Deed) (q : Path) → IsDeedResolved D o d → Every P (deed_paths_where ops' first' c j o τ d q) → (x : Path) × (P x × (AllMet x → AllMet q))
@@ -143,7 +143,7 @@ module _ (D : Development) (R : IsResolved D) (s : State) (e : Env) (τ : List T
   choose P j k υ (b ∷ bs) q a g h f some r =
       by (truth (S q) a outside b.guard) refl
       (λ e'. choose P j k υ bs (with_fact q (Not (told q.columns υ b.guard))) a g.1 h
-      (one_more D.specification.operations (first_system D) (grounds D R) s e τ q.facts (Not (told q.columns υ b.guard)) f (fails e')) (λ no. some (fails e', no)) r.1)
+      (one_more D.specification.operations (first_system D) (op_branches_ground D R) s e τ q.facts (Not (told q.columns υ b.guard)) f (fails e')) (λ no. some (fails e', no)) r.1)
     where
       tells : Holds s e outside (told q.columns υ b.guard) ≡ Holds (S q) a outside b.guard
       tells = Holds-told s e q.columns υ b.guard ∙ (λ i. Holds (S q) (h i) outside b.guard)
@@ -157,7 +157,7 @@ module _ (D : Development) (R : IsResolved D) (s : State) (e : Env) (τ : List T
       by : (t : Bool) → truth (S q) a outside b.guard ≡ t →
           (truth (S q) a outside b.guard ≡ false → Taking P j k (S q) a bs) → Taking P j k (S q) a (b ∷ bs)
       by true e' later =
-          let fact = one_more D.specification.operations (first_system D) (grounds D R) s e τ q.facts (told q.columns υ b.guard) f (subst (λ X. X) (sym tells) (d.0 e')) in
+          let fact = one_more D.specification.operations (first_system D) (op_branches_ground D R) s e τ q.facts (told q.columns υ b.guard) f (subst (λ X. X) (sym tells) (d.0 e')) in
           record {
             path = _;
             branch = b;
@@ -218,7 +218,7 @@ module _ (D : Development) (R : IsResolved D) (s : State) (e : Env) (τ : List T
       Every P (branch_paths ops' first' j k (U p by q c) (Bs p by) (W j k p by q c)) → Taking P j k (S q) (E p x by q) (Bs p by)
   taking P met j p x k by q c is f o r =
       choose P j k (U p by q c) (Bs p by) (W j k p by q c) (E p x by q)
-      (branches_ground D.specification.operations (first_system D) (grounds D R) s e τ p by) (marked_env_is D.specification.operations (first_system D) (grounds D R) s e τ p x by q c is) f o.enabled r
+      (branches_ground D.specification.operations (first_system D) (op_branches_ground D R) s e τ p by) (marked_env_is D.specification.operations (first_system D) (op_branches_ground D R) s e τ p x by q c is) f o.enabled r
 
   settle : (P : Path → Type 0) (met : (x : Path) → P x → AllMet x) (j p x : ℕ) (k : Marking) (by : Chosen Term) (q : Path) (c : Term) →
       ((b : Branch) → mark_updates first' k b ≡ b.updates ++ (at_client (rep_columns first') b.replies ++ at_client (pend first' ∷ []) (Number (pos 2) ∷ []))) →
@@ -228,12 +228,12 @@ module _ (D : Development) (R : IsResolved D) (s : State) (e : Env) (τ : List T
       let o = owed P met j p k by q c h f r in
       let y = taking P met j p x k by q c is f o r in
       let a : Env = E p x by q in
-      let back = ap (run (S q) a) (chosen-map (value (S q) (v D.specification.operations (first_system D) (grounds D R) s e τ) outside) by (op_branches ops' p)) in
+      let back = ap (run (S q) a) (chosen-map (value (S q) (v D.specification.operations (first_system D) (op_branches_ground D R) s e τ) outside) by (op_branches ops' p)) in
       let ws : List Write = writes_of (S q) a (y.branch).updates in
       let reply : List ℤ = values_of (S q) a (y.branch).replies in
       let one : S q first' (pos x) ≡ pos 1 = subst (λ i. S q first' i ≡ pos 1) is o.pending in
       let here : S y.path ≡ stored_all (S q) (ws ++ mark_writes first' x reply) =
-      y.columns ∙ (ap (λ us. stored_all (S q) (writes_of (S q) a us)) (upd y.branch) ∙ ap (stored_all (S q)) (settled_writes D.specification.operations (first_system D) (grounds D R) s e τ (S q) x a y.branch refl)) in
+      y.columns ∙ (ap (λ us. stored_all (S q) (writes_of (S q) a us)) (upd y.branch) ∙ ap (stored_all (S q)) (settled_writes D.specification.operations (first_system D) (op_branches_ground D R) s e τ (S q) x a y.branch refl)) in
       let fine = run_is few (2 + arity ops' p + length (given_in by)) (op_replies ops' p) (S q) a (Bs p by) ws reply (branches_resolved D R p by) (replies_resolved D R p by) y.runs in
       record {
         path = y.path;
@@ -251,10 +251,10 @@ module _ (D : Development) (R : IsResolved D) (s : State) (e : Env) (τ : List T
       let o = owed P met j p Note by q c h f r in
       let y = taking P met j p x Note by q c is f o r in
       let a : Env = E p x by q in
-      let back = ap (run (S q) a) (chosen-map (value (S q) (v D.specification.operations (first_system D) (grounds D R) s e τ) outside) by (op_branches ops' p)) in
+      let back = ap (run (S q) a) (chosen-map (value (S q) (v D.specification.operations (first_system D) (op_branches_ground D R) s e τ) outside) by (op_branches ops' p)) in
       let reply : List ℤ = values_of (S q) a (y.branch).replies in
       let one : S q first' (pos x) ≡ pos 1 = subst (λ i. S q first' i ≡ pos 1) is o.pending in
-      let here : S y.path ≡ stored_all (S q) (note_writes first' x reply) = y.columns ∙ ap (stored_all (S q)) (noted_writes D.specification.operations (first_system D) (grounds D R) s e τ (S q) x a y.branch refl) in
+      let here : S y.path ≡ stored_all (S q) (note_writes first' x reply) = y.columns ∙ ap (stored_all (S q)) (noted_writes D.specification.operations (first_system D) (op_branches_ground D R) s e τ (S q) x a y.branch refl) in
       record {
         path = y.path;
         given = y.given;
@@ -264,17 +264,17 @@ module _ (D : Development) (R : IsResolved D) (s : State) (e : Env) (τ : List T
         only = subst (Only first' n) (sym here) (only_after first' n few x (S q) [] (note_writes first' x reply) (omega arith) only one tt (note_at first' x reply));
       }
 
-  module _ (self o : ℕ) (mine : v D.specification.operations (first_system D) (grounds D R) s e τ 1 ≡ pos self) where
+  module _ (self o : ℕ) (mine : v D.specification.operations (first_system D) (op_branches_ground D R) s e τ 1 ≡ pos self) where
     abbrev V : Env
-    V = v D.specification.operations (first_system D) (grounds D R) s e τ
+    V = v D.specification.operations (first_system D) (op_branches_ground D R) s e τ
 
     other : (P : Path → Type 0) (met : (x : Path) → P x → AllMet x) (j p : ℕ) (t : Term) (by : Chosen Term) (q : Path) → IsNonempty (Bs p by) → F q → Only first' n (S q) →
-        Every P (branch_paths ops' first' j (Other t p) (U p by q (client D.specification.operations (first_system D) (grounds D R) s e τ (Other t p) q)) (Bs p by) (W j (Other t p) p by q (client D.specification.operations (first_system D) (grounds D R) s e τ (Other t p) q))) →
+        Every P (branch_paths ops' first' j (Other t p) (U p by q (client D.specification.operations (first_system D) (op_branches_ground D R) s e τ (Other t p) q)) (Bs p by) (W j (Other t p) p by q (client D.specification.operations (first_system D) (op_branches_ground D R) s e τ (Other t p) q))) →
         Ridden P (λ ms m. IsDone ops' first' self o V (S q) (Marks (Other t p) by) ms m)
     other P met j p t by q h f only r = go (only (value s e outside c))
       where
         c : Term
-        c = client D.specification.operations (first_system D) (grounds D R) s e τ (Other t p) q
+        c = client D.specification.operations (first_system D) (op_branches_ground D R) s e τ (Other t p) q
 
         w : Owed j p (Other t p) by q c
         w = owed P met j p (Other t p) by q c h f r
@@ -306,9 +306,9 @@ module _ (D : Development) (R : IsResolved D) (s : State) (e : Env) (τ : List T
           is = (refl, here);
           only = λ i. subst (λ z. (z ≡ pos 0) ⊎ ((c : ℕ) × (c < n) × (i ≡ pos c))) (sym ((λ k. here k first' i) ∙ (λ k. writes_other (S q) (write_of (S q) V u ∷ []) first' ((λ x. let lt = h.1 in omega arith), tt) k i))) (only i);
         }
-    ride_deed P met j (Marks Own by) q h f only r = settle P met j o self Own by q (client D.specification.operations (first_system D) (grounds D R) s e τ Own q) (λ b. refl) (value-said s e q.columns τ (Variable 1) ∙ mine) h f only r
+    ride_deed P met j (Marks Own by) q h f only r = settle P met j o self Own by q (client D.specification.operations (first_system D) (op_branches_ground D R) s e τ Own q) (λ b. refl) (value-said s e q.columns τ (Variable 1) ∙ mine) h f only r
     ride_deed P met j (Marks (Other t p) by) q h f only r = other P met j p t by q h f only r
-    ride_deed P met j (Marks Note by) q h f only r = note P met j o self by q (client D.specification.operations (first_system D) (grounds D R) s e τ Note q) (value-said s e q.columns τ (Variable 1) ∙ mine) h f only r
+    ride_deed P met j (Marks Note by) q h f only r = note P met j o self by q (client D.specification.operations (first_system D) (op_branches_ground D R) s e τ Note q) (value-said s e q.columns τ (Variable 1) ∙ mine) h f only r
 
     ride_way : (P : Path → Type 0) (met : (x : Path) → P x → AllMet x) (j : ℕ) (c : Option Formula) (d : Deed) (q : Path) → IsConditionResolved c → IsDeedResolved D o d → F q → Only first' n (S q) → Every P (deed_paths_where ops' first' c j o τ d q) →
         Ridden P (λ ms m. IsDoneWhere ops' first' c self o V (S q) d ms m)
@@ -320,7 +320,7 @@ module _ (D : Development) (R : IsResolved D) (s : State) (e : Env) (τ : List T
 
         by : (b : Bool) → truth (S q) V outside c ≡ b → Ridden P (λ ms m. IsDoneWhere ops' first' (Some c) self o V (S q) d ms m)
         by true e' =
-            let x = ride_deed P met j d (with_fact q (told q.columns τ c)) h (one_more D.specification.operations (first_system D) (grounds D R) s e τ q.facts (told q.columns τ c) f (subst (λ X. X) (sym (Holds-told s e q.columns τ c)) (dt.0 e'))) only
+            let x = ride_deed P met j d (with_fact q (told q.columns τ c)) h (one_more D.specification.operations (first_system D) (op_branches_ground D R) s e τ q.facts (told q.columns τ c) f (subst (λ X. X) (sym (Holds-told s e q.columns τ c)) (dt.0 e'))) only
             (Every_left P (deed_paths ops' first' j o τ d (with_fact q (told q.columns τ c))) _ r) in
             record { path = x.path; given = x.given; facts = x.facts; marks = x.marks; is = inl (dt.0 e', x.is); only = x.only }
         by false e' =
@@ -328,7 +328,7 @@ module _ (D : Development) (R : IsResolved D) (s : State) (e : Env) (τ : List T
             record {
               path = with_fact q (Not (told q.columns τ c));
               given = (Every_right P (deed_paths ops' first' j o τ d (with_fact q (told q.columns τ c))) _ r).0;
-              facts = one_more D.specification.operations (first_system D) (grounds D R) s e τ q.facts (Not (told q.columns τ c)) f (λ x. no (subst (λ X. X) (Holds-told s e q.columns τ c) x));
+              facts = one_more D.specification.operations (first_system D) (op_branches_ground D R) s e τ q.facts (Not (told q.columns τ c)) f (λ x. no (subst (λ X. X) (Holds-told s e q.columns τ c) x));
               marks = [];
               is = inr (no, refl, refl);
               only = only;

@@ -18,8 +18,8 @@ use Rattle.lc_rider.specs.Rider.{Mark, RideAll, invocation_writes, return_writes
 use Rattle.lc_outline.specs.Development.{Development, first_system, on_at, riders_in, riders_at}
 use Rattle.lc_sound.specs.Instrumented.{Label, Instrumented, Runs, start_world, with_columns}
 use Rattle.lc_sound.specs.Claims.{IsProven, IsGood}
-use Rattle.lc_machine.proofs.Bodies.{placed, answers_next}
-use Rattle.lc_sound.proofs.Gone.{Gone, gone}
+use Rattle.lc_machine.proofs.Bodies.{point_is_placed, answers_next}
+use Rattle.lc_sound.proofs.Gone.{Gone, done_is_gone}
 use Rattle.lc_outline.specs.Resolved.{IsRiderResolved, IsOnResolved}
 use Rattle.lc_outline.specs.Development.{On}
 use Rattle.lc_sound.specs.Claims.{OutlinesHold}
@@ -32,13 +32,13 @@ use Rattle.lc_sound.proofs.Arrived as A
 use Rattle.lc_sound.proofs.Calling as C
 
 -- where an edge leads, by what became of the client
-pub went : (s : State) (vs : List ℤ) (e : Edge) (next : ℕ) (new : List ℤ) (nx : Option ℕ) → Goes next new ≡ reached s vs e nx → (nx ≡ Some next) × (new ≡ assigned vs e.targets (numbers s vs e.values))
-went s vs e next new (Some l) h = (cc h, cc h)
-went s vs e next new None h = absurd (cc h)
+pub goes_where_reached : (s : State) (vs : List ℤ) (e : Edge) (next : ℕ) (new : List ℤ) (nx : Option ℕ) → Goes next new ≡ reached s vs e nx → (nx ≡ Some next) × (new ≡ assigned vs e.targets (numbers s vs e.values))
+goes_where_reached s vs e next new (Some l) h = (cc h, cc h)
+goes_where_reached s vs e next new None h = absurd (cc h)
 
-pub returned : (s : State) (vs : List ℤ) (e : Edge) (ns : List ℤ) (nx : Option ℕ) → Answers ns ≡ reached s vs e nx → (nx ≡ None) × (ns ≡ numbers s vs e.replies)
-returned s vs e ns (Some l) h = absurd (cc h)
-returned s vs e ns None h = (refl, cc h)
+pub answers_when_reached : (s : State) (vs : List ℤ) (e : Edge) (ns : List ℤ) (nx : Option ℕ) → Answers ns ≡ reached s vs e nx → (nx ≡ None) × (ns ≡ numbers s vs e.replies)
+answers_when_reached s vs e ns (Some l) h = absurd (cc h)
+answers_when_reached s vs e ns None h = (refl, cc h)
 
 pub riders-are : (D : Development) (o : ℕ) (e : Edge) (x : Option On) → IsOnResolved D o e x → Every (IsRiderResolved D o) (riders_in x)
 riders-are D o e None h = tt
@@ -53,7 +53,7 @@ module _ (D : Development) (X : IsProven D) (n : ℕ) (w : World) (G : IsGood D 
   at_edge p vs i k s' out r done =
       let good = G.each_client c (In p vs) r.client in
       let same : r.code.0 ≡ good.0 = same_Some r.code.0 good.0 (sym r.code.1 ∙ good.2) in
-      gone D X n w.columns s' c p vs k out good (subst (λ j. Does D.object w.columns vs j k s' out) (sym r.code.2 ∙ ap (λ (x : Point). x.instruction) same) done)
+      done_is_gone D X n w.columns s' c p vs k out good (subst (λ j. Does D.object w.columns vs j k s' out) (sym r.code.2 ∙ ap (λ (x : Point). x.instruction) same) done)
 
   op-at : (p : ℕ) (vs : List ℤ) (at : IsClient w c (In p vs)) → operation_at D.object p ≡ (G.each_client c (In p vs) at).0.operation
   op-at p vs at = ap operation_in (G.each_client c (In p vs) at).2
@@ -95,7 +95,7 @@ module _ (D : Development) (X : IsProven D) (n : ℕ) (w : World) (G : IsGood D 
       let at = running.client in
       let g = at_edge p vs i k s' (Goes next new) running done in
       let e : Edge = g.edge in
-      let by = went w.columns vs e next new e.next g.outcome in
+      let by = goes_where_reached w.columns vs e next new e.next g.outcome in
       let client : In next new ≡ In there variables =
       same_Some (In next new) (In there variables) (sym (slice_get-set w.clients c (In next new) (slice_get_within w.clients c (In p vs) at)) ∙ (ap (λ (y : World). slice_get y.clients c) (sym mid-is) ∙ isc)) in
       let vars : variables ≡ new = cc client in
@@ -112,13 +112,13 @@ module _ (D : Development) (X : IsProven D) (n : ℕ) (w : World) (G : IsGood D 
       let at = running.client in
       let g = at_edge p vs i k s' (Answers ns) running done in
       let e : Edge = g.edge in
-      let by = returned w.columns vs e ns e.next g.outcome in
+      let by = answers_when_reached w.columns vs e ns e.next g.outcome in
       let ret = return_edge D.object p (G.each_client c (In p vs) at).0.operation (G.each_client c (In p vs) at).1 (G.each_client c (In p vs) at).0.instruction e g.code g.here by.0 in
       let client : In point variables ≡ In p vs = same_Some (In point variables) (In p vs) (sym isc ∙ at) in
       let is-p : point ≡ p = cc client in
       let vars : variables ≡ vs = cc client in
       let still : vs ≡ assigned vs e.targets (numbers w.columns vs e.values) = ap (λ rs. assigned vs rs (numbers w.columns vs e.values)) (sym ret.targets) in
-      let pl = placed D.object X.resolved.object p running.code.0 running.code.1 in
+      let pl = point_is_placed D.object X.resolved.object p running.code.0 running.code.1 in
       let next : k ≡ Next = answers_next D.object (running.code.0).operation pl.operation w.columns vs k s' i ns done in
       let cols : mid.columns ≡ s' = ap (λ (y : World). y.columns) mid-is in
       let ride1 = subst (λ x. RideAll D.specification.operations (first_system D) c (operation_at D.object point) (variable variables) x (riders_at D point Next) ms m) cols ride in
@@ -169,7 +169,7 @@ module _ (D : Development) (X : IsProven D) (n : ℕ) (w : World) (G : IsGood D 
       let at = running.client in
       let g = at_edge D X n w G c p vs i k s' (Goes next new) running done in
       let e : Edge = g.edge in
-      let by = went w.columns vs e next new e.next g.outcome in
+      let by = goes_where_reached w.columns vs e next new e.next g.outcome in
       let client : In next new ≡ In there variables =
       same_Some (In next new) (In there variables) (sym (slice_get-set w.clients c (In next new) (slice_get_within w.clients c (In p vs) at)) ∙ (ap (λ (y : World). slice_get y.clients c) (sym mid-is) ∙ isc)) in
       let vars : variables ≡ new = cc client in
@@ -186,13 +186,13 @@ module _ (D : Development) (X : IsProven D) (n : ℕ) (w : World) (G : IsGood D 
       let at = running.client in
       let g = at_edge D X n w G c p vs i k s' (Answers ns) running done in
       let e : Edge = g.edge in
-      let by = returned w.columns vs e ns e.next g.outcome in
+      let by = answers_when_reached w.columns vs e ns e.next g.outcome in
       let ret = return_edge D.object p (G.each_client c (In p vs) at).0.operation (G.each_client c (In p vs) at).1 (G.each_client c (In p vs) at).0.instruction e g.code g.here by.0 in
       let client : In point variables ≡ In p vs = same_Some (In point variables) (In p vs) (sym isc ∙ at) in
       let is-p : point ≡ p = cc client in
       let vars : variables ≡ vs = cc client in
       let still : vs ≡ assigned vs e.targets (numbers w.columns vs e.values) = ap (λ rs. assigned vs rs (numbers w.columns vs e.values)) (sym ret.targets) in
-      let pl = placed D.object X.resolved.object p running.code.0 running.code.1 in
+      let pl = point_is_placed D.object X.resolved.object p running.code.0 running.code.1 in
       let next : k ≡ Next = answers_next D.object (running.code.0).operation pl.operation w.columns vs k s' i ns done in
       let cols : mid.columns ≡ s' = ap (λ (y : World). y.columns) mid-is in
       let ride1 = subst (λ x. RideAll D.specification.operations (first_system D) c (operation_at D.object point) (variable variables) x (riders_at D point Next) ms m) cols ride in

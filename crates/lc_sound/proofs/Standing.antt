@@ -25,7 +25,7 @@ use Rattle.lc_sound.proofs.Ordered.{column_in_front}
 use Rattle.lc_object.specs.Syntax.{Point}
 use Rattle.lc_sound.specs.Claims.{RunsStandOver}
 use Rattle.lc_outline.specs.Development.{riders_at}
-use Rattle.lc_machine.proofs.Bodies.{placed, answers_next}
+use Rattle.lc_machine.proofs.Bodies.{point_is_placed, answers_next}
 use Rattle.lc_sound.proofs.Book.{riders_resolved}
 
 pub own_of : (D : Development) → IsResolved D → (k : ℕ) → (length D.object.abstracts ≤ k) × (k < length D.object.abstracts + length D.object.concretes) → IsConcrete D k
@@ -100,7 +100,7 @@ module _ (D : Development) (R : IsResolved D) (w b : World) (over : IsOver D w b
       let is-p : point ≡ p = cc client in
       let at : slice_get D.object.points point ≡ Some pt = ap (slice_get D.object.points) is-p ∙ running.code.1 in
       let given = subst (λ j. Does D.object w.columns vs j k s' (Answers ns)) (sym running.code.2) done in
-      let gone = subst (λ x. Does D.object w.columns vs pt.instruction x s' (Answers ns)) (answers_next D.object pt.operation (placed D.object R.object point pt at).operation w.columns vs k s' pt.instruction ns given) given in
+      let gone = subst (λ x. Does D.object w.columns vs pt.instruction x s' (Answers ns)) (answers_next D.object pt.operation (point_is_placed D.object R.object point pt at).operation w.columns vs k s' pt.instruction ns given) given in
       let res = riders_resolved D R w.columns s' vs point pt Next (Answers ns) at gone in
       stands (Returned ns) mid v (stored_all m (return_writes (first_system D) c)) (p, vs, i, running, k, s', done, mid-is) v-is
       (λ j own. writes_other m (return_writes (first_system D) c) j ((λ x. let l = own.1 in omega arith), tt)

@@ -25,9 +25,9 @@ use Rattle.lc_sound.specs.Lawful.{Phase, Free, Waiting, Takes, calls, IsLawful}
 use Rattle.lc_sound.proofs.Own.{same_client}
 use Rattle.lc_sound.proofs.Kept.{call_in}
 use Rattle.lc_seq.proofs.Abstract.{same-abstract}
-use Rattle.lc_machine.proofs.Bodies.{placed, goes_to, answers_count, answers_next, entry_is}
+use Rattle.lc_machine.proofs.Bodies.{point_is_placed, goes_to, answers_count, answers_next, entry_is}
 use Rattle.lc_sound.proofs.Rows.{takes_return}
-use Rattle.lc_outline.proofs.Matched.{match_at, few}
+use Rattle.lc_outline.proofs.Matched.{match_at, arity_and_replies_few}
 use Rattle.lc_sound.proofs.RowChanges.{rows_away, specification_kept, invocation_at, invocation_behind, invoked_row, free_row}
 use Rattle.lc_sound.proofs.Book.{Tells, Stands, AllStand, is_free, put_last, put_free, ops, n, first, step, abs, below, matched, rides_all, same_tells, same_cells, riders_resolved}
 
@@ -73,7 +73,7 @@ module _ (D : Development) (R : IsResolved D) where
       let is : GoesOn last phases w c (Invoked o numbers) [] (with_columns here t) = record {
         after = put phases c (Waiting call);
         tells = record {
-          matches = matched D R phases w.columns t c (Waiting call) tells.matches (invoked_row (ops D R) (first D R) w.columns c o numbers (whole ∙ m.arguments) (few D R o).0)
+          matches = matched D R phases w.columns t c (Waiting call) tells.matches (invoked_row (ops D R) (first D R) w.columns c o numbers (whole ∙ m.arguments) (arity_and_replies_few D R o).0)
               (λ d ne. rows_away (first D R) w.columns c d (invocation_writes (first_system D) c o numbers) ne (invocation_at (first D R) c o numbers));
           is_last = put_last phases last c call tells.is_last;
         };
@@ -104,7 +104,7 @@ module _ (D : Development) (R : IsResolved D) where
       let ride' = subst (λ a. RideAll D.specification.operations (first_system D) c (operation_at D.object point) (variable variables) a (riders_at D point edge) ms t) cols ride in
       let leads = rides_all D R last phases c (operation_at D.object point) (variable variables) s' (riders_at D point edge) ms t
       (riders_resolved D R w.columns s' vs point pt edge (Goes next new) at gone) (same_tells D R w.columns s' vs point pt edge (Goes next new) at gone phases last tells) named ride' in
-      let pl = placed D.object R.object point pt at in
+      let pl = point_is_placed D.object R.object point pt at in
       let body : operation_at D.object next ≡ call.op = goes_to D.object pt.operation pl.operation w.columns vs edge s' pt.instruction next new pl.instruction gone ∙ (sym (ap operation_in at) ∙ standing.2) in
       let here : World = after w s' c (In next new) in
       let is : GoesOn last phases w c (Moved point edge) ms (with_columns here t) = record {
@@ -124,7 +124,7 @@ module _ (D : Development) (R : IsResolved D) where
       let at : slice_get D.object.points point ≡ Some pt = ap (slice_get D.object.points) is-p ∙ running.code.1 in
       let given : Does D.object w.columns vs pt.instruction edge s' (Answers numbers) = subst (λ j. Does D.object w.columns vs j edge s' (Answers numbers)) (sym running.code.2) done in
       let gone : Does D.object w.columns vs pt.instruction Next s' (Answers numbers) =
-      subst (λ k. Does D.object w.columns vs pt.instruction k s' (Answers numbers)) (answers_next D.object pt.operation (placed D.object R.object point pt at).operation w.columns vs edge s' pt.instruction numbers given) given in
+      subst (λ k. Does D.object w.columns vs pt.instruction k s' (Answers numbers)) (answers_next D.object pt.operation (point_is_placed D.object R.object point pt at).operation w.columns vs edge s' pt.instruction numbers given) given in
       let standing : Stands D.object (Some (In point variables)) (call_in (phases c)) = subst (λ z. Stands D.object z (call_in (phases c))) isc (stand c) in
       let call : Call = standing.0 in
       let named : (k : Call) → call_in (phases c) ≡ Some k → k.op ≡ operation_at D.object point = λ k e. (let same : call ≡ k = cc (e, standing.1) in ap (λ (x : Call). x.op) (sym same) ∙ sym standing.2) in
@@ -133,7 +133,7 @@ module _ (D : Development) (R : IsResolved D) where
       let leads = rides_all D R last phases c (operation_at D.object point) (variable variables) s' (riders_at D point Next) ms t
       (riders_resolved D R w.columns s' vs point pt Next (Answers numbers) at gone) (same_tells D R w.columns s' vs point pt Next (Answers numbers) at gone phases last tells) named ride' in
       let later : ℕ → Phase = leads.after in
-      let pl = placed D.object R.object point pt at in
+      let pl = point_is_placed D.object R.object point pt at in
       let op-is : pt.operation ≡ call.op = sym (ap operation_in at) ∙ standing.2 in
       let whole : length numbers ≡ op_replies (ops D R) call.op =
       answers_count D.object pt.operation pl.operation w.columns vs Next s' pt.instruction numbers pl.instruction gone ∙ ((match_at D R pt.operation pl.operation pl.is).replies ∙ ap (op_replies (ops D R)) op-is) in

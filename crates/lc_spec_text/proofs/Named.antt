@@ -4,7 +4,7 @@ use Rattle.std.specs.Prelude.{codes, bytes_eq, length, Some}
 use Rattle.std.specs.List.{list_any}
 use Rattle.lc_base.specs.Limits.{operation_limit}
 use Rattle.lc_sexp.specs.Trees.{Tree, Trees, atom, list, none, ◌▸◌, item_count}
-use Rattle.lc_reading.proofs.Holding.{Holds, anything, weaker, mapped_holds, both_holds, three_holds, limited_holds}
+use Rattle.lc_reading.proofs.Holding.{Holds, holds_unit, holds_weaker, mapped_holds, both_holds, three_holds, limited_holds}
 use Rattle.lc_reading.specs.Listed.{declared_by}
 use Rattle.lc_reading.specs.Naming.{is_full}
 use Rattle.lc_reading.specs.Readings.{wrong, behind_reading}
@@ -29,8 +29,8 @@ operation_parts_name columns before n m t (u ▸ x ▸ b ▸ bs) =
     both_holds (λ (p : (List ℕ × List (List ℕ)) × ℕ). IsNew before p.0.0 × (declared_by t ≡ p.0.0 ∷ [])) (λ (bs : List Branch). Unit {0}) (λ p. Names before t (the_operation p)) pair
     (signature_reading before m t u x) _
     (three_holds (λ v. IsNew before v × (declared_by t ≡ v ∷ [])) (λ ws. Unit {0}) (λ k. Unit {0}) (λ (p : (List ℕ × List (List ℕ)) × ℕ). IsNew before p.0.0 × (declared_by t ≡ p.0.0 ∷ [])) triple _ _ _
-    (name_declares before m t) (anything (arguments_reading (m + item_count t) u)) (anything (count_reading (m + item_count t + item_count u) x)) (λ w ws k h g e. h))
-    (anything _) (λ p bs h g. h)
+    (name_declares before m t) (holds_unit (arguments_reading (m + item_count t) u)) (holds_unit (count_reading (m + item_count t + item_count u) x)) (λ w ws k h g e. h))
+    (holds_unit _) (λ p bs h g. h)
 
 operation_list_names : (columns : Columns) (before : List (List ℕ)) (n : ℕ) (w : List ℕ) (ts : Trees) (b : Bool)
     → Holds (λ p. IsNew before (the_operation p).name × (second_name (list (atom w ▸ ts)) ≡ (the_operation p).name ∷ [])) (cond b (operation_parts_reading columns before n (n + 2) ts) (wrong Shape n))
@@ -63,4 +63,4 @@ differ (o ∷ os) h = not_false (list_any (λ (p : Operation). bytes_eq o.name p
 pub operations_differ : (columns : Columns) (m : ℕ) (ts : Trees) → Holds (λ os. names_differ os ≡ true) (declared_reading (operation_reading columns) second_name [] m ts)
 operations_differ columns m ts =
     let name = λ (o : Operation). o.name in
-    weaker (AreNew name []) (λ os. names_differ os ≡ true) _ (λ os h. differ os (apart name [] os h)) (declared_new name (operation_reading columns) second_name (operation_names columns) [] m ts)
+    holds_weaker (AreNew name []) (λ os. names_differ os ≡ true) _ (λ os h. differ os (apart name [] os h)) (declared_new name (operation_reading columns) second_name (operation_names columns) [] m ts)

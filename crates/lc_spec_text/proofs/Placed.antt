@@ -36,5 +36,5 @@ stands_before (v ∷ vs) w (suc k) = step (is w v) (list_any (is w) (take k vs))
 pub not_placed : (vs : List (List ℕ)) (w : List ℕ) (k : ℕ) → place_of vs w ≡ None → false ≡ list_any (is w) (take k vs)
 not_placed vs w k e = sym (stands_before vs w k ∙ ap (is_before k) e)
 
-pub placed : (vs : List (List ℕ)) (w : List ℕ) (k p : ℕ) → place_of vs w ≡ Some p → nat_lt p k ≡ list_any (is w) (take k vs)
-placed vs w k p e = sym (stands_before vs w k ∙ ap (is_before k) e)
+pub place_within_front : (vs : List (List ℕ)) (w : List ℕ) (k p : ℕ) → place_of vs w ≡ Some p → nat_lt p k ≡ list_any (is w) (take k vs)
+place_within_front vs w k p e = sym (stands_before vs w k ∙ ap (is_before k) e)

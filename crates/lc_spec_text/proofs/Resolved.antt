@@ -13,7 +13,7 @@ use Rattle.lc_term.proofs.Tests.{left_true}
 use Rattle.lc_term.specs.Places.{known, term_passes, column_passes, is_known, are_known}
 use Rattle.lc_term.specs.Syntax.{Term, Column, Formula, Formulas}
 use Rattle.lc_term.specs.Truth.{is_ground, are_ground}
-use Rattle.lc_reading.proofs.Holding.{Holds, held, anything, weaker, and_holds, mapped_holds, both_holds, three_holds, ended_holds, limited_holds, if_holds, listed_holds, behind_holds, and_true, each_holds, counted_holds, declared_holds, declared_counts}
+use Rattle.lc_reading.proofs.Holding.{Holds, holds_of_fine, holds_unit, holds_weaker, and_holds, mapped_holds, both_holds, three_holds, ended_holds, limited_holds, if_holds, listed_holds, behind_holds, and_true, each_holds, counted_holds, declared_holds, declared_counts}
 use Rattle.lc_reading.specs.Listed.{place_of, declared_by}
 use Rattle.lc_reading.specs.Naming.{is_full, name_reading}
 use Rattle.lc_reading.specs.Readings.{Reading, fine, flawed, wrong, listed_reading}
@@ -221,7 +221,7 @@ parameters_hold variables n (list ts) = let limit = Some (3 + length variables) 
 label_holds : (variables before : List (List ℕ)) (m : ℕ) (a b : Tree) → Holds (λ l. length l.1 ≡ length (parameters_in b)) (label_reading variables before m a b)
 label_holds variables before m a b =
     both_holds (λ w. Unit {0}) (λ ws. length ws ≡ length (parameters_in b)) (λ l. length l.1 ≡ length (parameters_in b)) pair (name_reading None before m a) (parameters_reading variables (m + item_count a) b)
-    (anything (name_reading None before m a)) (parameters_hold variables (m + item_count a) b) (λ w ws h g. g)
+    (holds_unit (name_reading None before m a)) (parameters_hold variables (m + item_count a) b) (λ w ws h g. g)
 
 behind : (vs ps : List (List ℕ)) (n : ℕ) → n ≡ length ps → suc (length (vs ++ ps)) + 0 ≡ suc (length vs) + n
 behind vs ps n e = omega (arith, e, length-append vs ps)
@@ -319,7 +319,7 @@ operation_parts_hold columns before n m (t ▸ u ▸ x ▸ b ▸ bs) =
     let v = suc (length (variables_in u)) in
     both_holds (λ (p : (List ℕ × List (List ℕ)) × ℕ). (v ≡ 2 + length p.0.1) × (count_in x ≡ Some p.1)) (AllBranched c v (count_in x)) (OperationMade c) pair _ _
     (three_holds (λ (w : List ℕ). Unit {0}) (λ ws. v ≡ 2 + length ws) (λ k. count_in x ≡ Some k) (λ (p : (List ℕ × List (List ℕ)) × ℕ). (v ≡ 2 + length p.0.1) × (count_in x ≡ Some p.1)) triple _ _ _
-    (anything (name_reading None before m t)) (arguments_hold (m + item_count t) u) (count_holds (m + item_count t + item_count u) x) (λ w ws k h g e. (g, e)))
+    (holds_unit (name_reading None before m t)) (arguments_hold (m + item_count t) u) (count_holds (m + item_count t + item_count u) x) (λ w ws k h g e. (g, e)))
     (ways_hold columns (variables_in u) (count_in x) (m + item_count t + item_count u + item_count x) (b ▸ bs))
     (λ p bs h g. operation_made c v (count_in x) p.0.0 p.0.1 p.1 bs h.0 h.1 g)
 
@@ -338,7 +338,7 @@ column_parts_hold before n m (t ▸ u ▸ none) = tt
 column_parts_hold before n m (t ▸ u ▸ x ▸ ts) =
     ended_holds (λ p. length (declared_by t) ≡ 1) _ ts _
     (three_holds (λ w. length (declared_by t) ≡ 1) (λ z. Unit {0}) (λ z. Unit {0}) (λ p. length (declared_by t) ≡ 1) triple _ _ _
-    (one_name None before m t) (anything (number_reading (m + item_count t) u)) (anything (number_reading (m + item_count t + item_count u) x)) (λ w z y h g e. h))
+    (one_name None before m t) (holds_unit (number_reading (m + item_count t) u)) (holds_unit (number_reading (m + item_count t + item_count u) x)) (λ w z y h g e. h))
 
 column_list_holds : (before : List (List ℕ)) (n : ℕ) (t : Tree) → Holds (λ p. length (first_name t) ≡ 1) (listed_reading (column_parts_reading before) n t)
 column_list_holds before n (atom w) = tt
@@ -372,8 +372,8 @@ parts_hold others n m (t ▸ u ▸ o ▸ os) =
     let columns : Columns = record { own = columns_in u; others = others } in
     let test = operation_is_resolved (length (columns_in u)) in
     three_holds (λ (w : List ℕ). Unit {0}) (λ ds. length ds ≡ length (columns_in u)) (λ os. are_resolved (length (columns_in u)) os ≡ true) IsResolved triple _ _ _
-    (anything (name_reading None [] m t)) (columns_hold (m + item_count t) u)
-    (weaker (λ os. (list_all test os ≡ true) × (names_differ os ≡ true)) (λ os. are_resolved (length (columns_in u)) os ≡ true) _ (λ os h. and_true (list_all test os) (names_differ os) h.0 h.1)
+    (holds_unit (name_reading None [] m t)) (columns_hold (m + item_count t) u)
+    (holds_weaker (λ os. (list_all test os ≡ true) × (names_differ os ≡ true)) (λ os. are_resolved (length (columns_in u)) os ≡ true) _ (λ os h. and_true (list_all test os) (names_differ os) h.0 h.1)
     (and_holds (λ os. list_all test os ≡ true) (λ os. names_differ os ≡ true) _
     (declared_holds test (operation_reading columns) second_name (operation_holds columns) [] (m + item_count t + item_count u) (o ▸ os))
     (operations_differ columns (m + item_count t + item_count u) (o ▸ os))))
@@ -391,5 +391,5 @@ pub parts_resolved : (others : List (List ℕ)) (n m : ℕ) (ts : Trees) (a : Re
     → IfOk a (λ p. are_resolved (length p.0.1.items) (operations_of p.1) ≡ true)
 parts_resolved others n m ts (Err f) h = tt
 parts_resolved others n m ts (Ok p) h =
-    let resolved : IsResolved (specification_parts p) = held IsResolved (specification_parts_reading others n m ts) (specification_parts p) (parts_hold others n m ts) h in
+    let resolved : IsResolved (specification_parts p) = holds_of_fine IsResolved (specification_parts_reading others n m ts) (specification_parts p) (parts_hold others n m ts) h in
     subst (λ n. are_resolved n (operations_of p.1) ≡ true) (length-map p.0.1.items column_of) resolved

@@ -16,7 +16,7 @@ use Rattle.lc_text.specs.Terms.{pair}
 use Rattle.lc_seq.proofs.Choosing.{left_in}
 use Rattle.lc_seq.specs.Sequential.{Chosen, InOrder, ByName, given_in}
 use Rattle.lc_seq.specs.Specification.{Branch, is_in_order, agree, chosen}
-use Rattle.lc_reading.proofs.Holding.{Holds, anything, weaker, and_holds, and_true, mapped_holds, both_holds}
+use Rattle.lc_reading.proofs.Holding.{Holds, holds_unit, holds_weaker, and_holds, and_true, mapped_holds, both_holds}
 use Rattle.lc_reading.specs.Listed.{declared_by, place_of}
 use Rattle.lc_reading.specs.Naming.{name_reading, declaration_reading}
 use Rattle.lc_reading.specs.Readings.{Reading, wrong, behind_reading}
@@ -39,7 +39,7 @@ branches_in_order columns names count m none = tt
 branches_in_order columns names count m (t ▸ ts) =
     both_holds (λ (b : Branch). b.label ≡ InOrder) AreInOrder AreInOrder (λ b bs. b ∷ bs) (branch_reading columns names count m t) (each_reading (branch_reading columns names count) (m + item_count t) ts)
     (mapped_holds (λ p. Unit {0}) (λ (b : Branch). b.label ≡ InOrder) the_branch (behind_reading (codes "branch") (branch_parts_reading columns names count) m t)
-    (anything (behind_reading (codes "branch") (branch_parts_reading columns names count) m t)) (λ p u. refl))
+    (holds_unit (behind_reading (codes "branch") (branch_parts_reading columns names count) m t)) (λ p u. refl))
     (branches_in_order columns names count (m + item_count t) ts) (λ b bs h g. (h, g))
 
 -- if no choice is named all of them are left
@@ -84,7 +84,7 @@ pub record AreChoices (ts : Trees) (bs : List Branch) : Type 0 where
 name_said : (limit : Option ℕ) (before : List (List ℕ)) (n : ℕ) (t : Tree) → Holds (λ v. declared_by t ≡ v ∷ []) (name_reading limit before n t)
 name_said limit before n (list ts) = tt
 name_said limit before n (atom w) =
-    mapped_holds (λ u. Unit {0}) (λ v. w ∷ [] ≡ v ∷ []) (λ u. w) (declaration_reading limit before n (atom w)) (anything (declaration_reading limit before n (atom w))) (λ u h. refl)
+    mapped_holds (λ u. Unit {0}) (λ v. w ∷ [] ≡ v ∷ []) (λ u. w) (declaration_reading limit before n (atom w)) (holds_unit (declaration_reading limit before n (atom w))) (λ u h. refl)
 
 abbrev AreNames : Trees → List (List ℕ) → Type 0
 AreNames ps ws = (ws ≡ all_declared declared_by ps) × (length ws ≡ tree_count ps)
@@ -107,10 +107,10 @@ same_name w v e = cc
 label_said : (variables before : List (List ℕ)) (m : ℕ) (a b : Tree) → Holds (IsLabelOf before a b) (label_reading variables before m a b)
 label_said variables before m (list us) b =
     both_holds (λ w. ⊥) (λ ws. Unit {0}) (IsLabelOf before (list us) b) pair (name_reading None before m (list us)) (parameters_reading variables (m + item_count (list us)) b)
-    tt (anything (parameters_reading variables (m + item_count (list us)) b)) (λ w ws h g. absurd h)
+    tt (holds_unit (parameters_reading variables (m + item_count (list us)) b)) (λ w ws h g. absurd h)
 label_said variables before m (atom w) (atom v) =
     both_holds (λ w. Unit {0}) (λ ws. ⊥) (IsLabelOf before (atom w) (atom v)) pair (name_reading None before m (atom w)) (parameters_reading variables (m + item_count (atom w)) (atom v))
-    (anything (name_reading None before m (atom w))) tt (λ w ws h g. absurd g)
+    (holds_unit (name_reading None before m (atom w))) tt (λ w ws h g. absurd g)
 label_said variables before m (atom w) (list ps) =
     both_holds (λ v. IsNew before v × (w ∷ [] ≡ v ∷ [])) (AreNames ps) (IsLabelOf before (atom w) (list ps)) pair (name_reading None before m (atom w)) (parameters_reading variables (m + item_count (atom w)) (list ps))
     (name_declares before m (atom w)) (names_said (Some (parameter_limit + length variables)) variables (m + item_count (atom w) + 1) ps)
@@ -136,7 +136,7 @@ choice_parts_said columns variables count before n m (a ▸ b ▸ t ▸ u ▸ no
 choice_parts_said columns variables count before n m (a ▸ b ▸ t ▸ u ▸ v ▸ ts) =
     let parts = branch_parts_reading columns (branch_names columns.own (variables ++ parameters_in b)) count n (m + item_count a + item_count b) (t ▸ u ▸ v ▸ ts) in
     both_holds (IsLabelOf before a b) (λ q. Unit {0}) (λ p. IsSaid before (a ▸ b ▸ t ▸ u ▸ v ▸ ts) (the_choice p)) pair (label_reading variables before m a b) parts
-    (label_said variables before m a b) (anything parts) (λ l q h g. said before a b (t ▸ u ▸ v ▸ ts) (pair l q) h)
+    (label_said variables before m a b) (holds_unit parts) (λ l q h g. said before a b (t ▸ u ▸ v ▸ ts) (pair l q) h)
 
 choice_said : (columns : Columns) (variables : List (List ℕ)) (count : Option ℕ) (before : List (List ℕ)) (n : ℕ) (t : Tree)
     → Holds (λ b. IsChoice t b × (IsNew before (name_of b) × (second_name t ≡ name_of b ∷ []))) (choice_reading columns variables count before n t)
@@ -162,7 +162,7 @@ choice_said columns variables count before n (list (atom c ▸ ts)) =
 
     by_test : (b : Bool) → is c (codes "choice") ≡ b → Holds (λ p. Q (the_choice p)) (cond b (read n (n + 2) ts) (wrong Shape n))
     by_test true e =
-        weaker (λ p. IsSaid before ts (the_choice p)) (λ p. Q (the_choice p)) (read n (n + 2) ts) (λ p h. names ts (the_choice p) (ap (λ b. cond b (fits ts) misshapen) e) h)
+        holds_weaker (λ p. IsSaid before ts (the_choice p)) (λ p. Q (the_choice p)) (read n (n + 2) ts) (λ p h. names ts (the_choice p) (ap (λ b. cond b (fits ts) misshapen) e) h)
         (choice_parts_said columns variables count before n (n + 2) ts)
     by_test false e = tt
 
@@ -172,17 +172,17 @@ each_said columns variables count before m none = tt
 each_said columns variables count before m (t ▸ ts) =
     let read = choice_reading columns variables count in
     both_holds (IsChoice t) (EachIsChoice ts) (EachIsChoice (t ▸ ts)) (λ b bs. b ∷ bs) (read before m t) (declared_reading read second_name (before ++ second_name t) (m + item_count t) ts)
-    (weaker (λ b. IsChoice t b × (IsNew before (name_of b) × (second_name t ≡ name_of b ∷ []))) (IsChoice t) (read before m t) (λ b h. h.0) (choice_said columns variables count before m t))
+    (holds_weaker (λ b. IsChoice t b × (IsNew before (name_of b) × (second_name t ≡ name_of b ∷ []))) (IsChoice t) (read before m t) (λ b h. h.0) (choice_said columns variables count before m t))
     (each_said columns variables count (before ++ second_name t) (m + item_count t) ts) (λ b bs h g. (h, g))
 
 pub choices_said : (columns : Columns) (variables : List (List ℕ)) (count : Option ℕ) (m : ℕ) (ts : Trees) → Holds (AreChoices ts) (declared_reading (choice_reading columns variables count) second_name [] m ts)
 choices_said columns variables count m ts =
     let read = choice_reading columns variables count in
     let r = declared_reading read second_name [] m ts in
-    weaker (λ bs. EachIsChoice ts bs × AreNew name_of [] bs) (AreChoices ts) r (λ bs h. record { each = h.0; apart = apart name_of [] bs h.1 })
+    holds_weaker (λ bs. EachIsChoice ts bs × AreNew name_of [] bs) (AreChoices ts) r (λ bs h. record { each = h.0; apart = apart name_of [] bs h.1 })
     (and_holds (EachIsChoice ts) (AreNew name_of []) r (each_said columns variables count [] m ts)
     (declared_new name_of read second_name
-    (λ before n t. weaker (λ b. IsChoice t b × (IsNew before (name_of b) × (second_name t ≡ name_of b ∷ []))) (λ b. IsNew before (name_of b) × (second_name t ≡ name_of b ∷ [])) (read before n t) (λ b h. h.1)
+    (λ before n t. holds_weaker (λ b. IsChoice t b × (IsNew before (name_of b) × (second_name t ≡ name_of b ∷ []))) (λ b. IsNew before (name_of b) × (second_name t ≡ name_of b ∷ [])) (read before n t) (λ b h. h.1)
     (choice_said columns variables count before n t))
     [] m ts))
 
@@ -198,10 +198,10 @@ ways_said columns variables count m ts = by_test (begin_with_choice ts) refl whe
   by_test : (b : Bool) → begin_with_choice ts ≡ b
       → Holds (AreWays ts) (cond b (declared_reading (choice_reading columns variables count) second_name [] m ts) (each_reading (branch_reading columns (branch_names columns.own variables) count) m ts))
   by_test true e =
-      weaker (AreChoices ts) (AreWays ts) (declared_reading (choice_reading columns variables count) second_name [] m ts)
+      holds_weaker (AreChoices ts) (AreWays ts) (declared_reading (choice_reading columns variables count) second_name [] m ts)
       (λ bs h. record { branches = λ f. absurd (let no : true ≡ false = sym e ∙ f in cc); choices = λ f. h }) (choices_said columns variables count m ts)
   by_test false e =
-      weaker AreInOrder (AreWays ts) (each_reading (branch_reading columns (branch_names columns.own variables) count) m ts)
+      holds_weaker AreInOrder (AreWays ts) (each_reading (branch_reading columns (branch_names columns.own variables) count) m ts)
       (λ bs h. record { branches = λ f. h; choices = λ f. absurd (let no : true ≡ false = sym f ∙ e in cc) }) (branches_in_order columns (branch_names columns.own variables) count m ts)
 
 -- there is one for each form
@@ -209,14 +209,14 @@ each_counted : {X : Type 0} (read : ℕ → Tree → Reading X) (m : ℕ) (ts : 
 each_counted read m none = refl
 each_counted read m (t ▸ ts) =
     both_holds (λ x. Unit {0}) (λ xs. length xs ≡ tree_count ts) (λ xs. length xs ≡ tree_count (t ▸ ts)) (λ x xs. x ∷ xs) (read m t) (each_reading read (m + item_count t) ts)
-    (anything (read m t)) (each_counted read (m + item_count t) ts) (λ x xs h g. ap suc g)
+    (holds_unit (read m t)) (each_counted read (m + item_count t) ts) (λ x xs h g. ap suc g)
 
 declared_counted : {X : Type 0} (read : List (List ℕ) → ℕ → Tree → Reading X) (declares : Tree → List (List ℕ)) (before : List (List ℕ)) (m : ℕ) (ts : Trees)
     → Holds (λ xs. length xs ≡ tree_count ts) (declared_reading read declares before m ts)
 declared_counted read declares before m none = refl
 declared_counted read declares before m (t ▸ ts) =
     both_holds (λ x. Unit {0}) (λ xs. length xs ≡ tree_count ts) (λ xs. length xs ≡ tree_count (t ▸ ts)) (λ x xs. x ∷ xs) (read before m t)
-    (declared_reading read declares (before ++ declares t) (m + item_count t) ts) (anything (read before m t)) (declared_counted read declares (before ++ declares t) (m + item_count t) ts) (λ x xs h g. ap suc g)
+    (declared_reading read declares (before ++ declares t) (m + item_count t) ts) (holds_unit (read before m t)) (declared_counted read declares (before ++ declares t) (m + item_count t) ts) (λ x xs h g. ap suc g)
 
 pub ways_counted : (columns : Columns) (variables : List (List ℕ)) (count : Option ℕ) (m : ℕ) (ts : Trees) → Holds (λ bs. length bs ≡ tree_count ts) (ways_reading columns variables count m ts)
 ways_counted columns variables count m ts = by_test (begin_with_choice ts) where

@@ -175,10 +175,10 @@ notes-there first n k cs e h =
     subst (AreBelow n) (sym (take-numbers k cs ∙ ap (take k) e)) (take-below n k (note_columns first) all)
 
 -- a row of the first columns, as many as the numbers
-pub stands : (first : ℕ) (m : State) (c : ℕ) (ns : List ℤ) (cs : List ℕ) (all : List ColId) (r : Result Bool EvalFault) → columns_of all ≡ cs →
+pub stand_in_row : (first : ℕ) (m : State) (c : ℕ) (ns : List ℤ) (cs : List ℕ) (all : List ColId) (r : Result Bool EvalFault) → columns_of all ≡ cs →
     OkIff r (ComparisonFits m (columns_of (take (length ns) all)) (pos c) ns) (pointwise int_eq (row m (columns_of (take (length ns) all)) (pos c)) ns) →
     OkIff r (StandFits first m c ns cs) (stand_in first m c ns cs)
-stands first m c ns cs all r e h =
+stand_in_row first m c ns cs all r e h =
     subst (λ xs. OkIff r (ComparisonFits m xs (pos c) ns) (pointwise int_eq (row m xs (pos c)) ns)) (take-numbers (length ns) all ∙ ap (take (length ns)) e) h
 
 -- a number that is read does not fit

@@ -25,7 +25,7 @@ use Rattle.lc_machine.specs.MayRun.{variables_at, variables_in}
 use Rattle.lc_machine.specs.Placed.{is_count, is_placed}
 use Rattle.lc_machine.specs.Step.{Does, Outcome, Goes, Answers, assigned}
 use Rattle.lc_machine.specs.World.{In, initial_numbers}
-use Rattle.lc_machine.proofs.Bodies.{placed, answers_next}
+use Rattle.lc_machine.proofs.Bodies.{point_is_placed, answers_next}
 use Rattle.lc_machine.proofs.EdgeLaw.{by_edge}
 use Rattle.lc_machine.proofs.Lengths.{assigned_length}
 use Rattle.lc_rider.specs.Rider.{Marking, Own, Other, Note, Deed, Assign, Marks, Rider}
@@ -34,8 +34,8 @@ use Rattle.lc_outline.specs.Limits.{is_limited, outlines_are_limited}
 use Rattle.lc_outline.specs.Sizes.{sizes_of, count}
 use Rattle.lc_outline.specs.Resolved.{is_resolved, IsConditionResolved, IsRiderResolved, IsOnResolved}
 use Rattle.lc_outline.specs.Scope.{column_total, IsTermScoped, IsMarkingScoped, IsDeedScoped, IsConditionScoped, IsRiderScoped, IsOnScoped}
-use Rattle.lc_outline.proofs.Matched.{all_resolved, few}
-use Rattle.lc_outline.proofs.Resolving.{resolved, all_scoped}
+use Rattle.lc_outline.proofs.Matched.{all_resolved, arity_and_replies_few}
+use Rattle.lc_outline.proofs.Resolving.{passed_is_resolved, all_scoped}
 use Rattle.lc_outline.proofs.Scoped.{scoped_known}
 use Rattle.lc_ride.specs.RideLaws.{IsOpen}
 use Rattle.lc_ride.specs.RideView.{AreThere, marking_is_evaluable, deed_is_evaluable, condition_is_evaluable, rider_is_evaluable}
@@ -44,14 +44,14 @@ use Rattle.lc_steps.proofs.Telling.{AreOpen}
 use Rattle.lc_steps.proofs.Wider.{branches-wider}
 
 -- the columns of specification and system are there
-pub there : (D : Development) → is_resolved D ≡ true → (n : ℕ) → n ≡ column_count (first_system D) → AreThere D.specification.operations (first_system D) n
-there D R n is = record {
+pub columns_are_there : (D : Development) → is_resolved D ≡ true → (n : ℕ) → n ≡ column_count (first_system D) → AreThere D.specification.operations (first_system D) n
+columns_are_there D R n is = record {
   system = omega arith;
-  branches = λ o. branches-wider (length D.specification.columns) n (2 + arity D.specification.operations o) (omega arith) (op_branches D.specification.operations o) (all_resolved D (resolved D R) o);
+  branches = λ o. branches-wider (length D.specification.columns) n (2 + arity D.specification.operations o) (omega arith) (op_branches D.specification.operations o) (all_resolved D (passed_is_resolved D R) o);
 }
 
-pub small : (D : Development) → is_resolved D ≡ true → (o : ℕ) → arity D.specification.operations o ≤ argument_limit
-small D R o = (few D (resolved D R) o).0
+pub arity_is_small : (D : Development) → is_resolved D ≡ true → (o : ℕ) → arity D.specification.operations o ≤ argument_limit
+arity_is_small D R o = (arity_and_replies_few D (passed_is_resolved D R) o).0
 
 initial-count : (object : Object) → length (initial_numbers object) ≡ length object.abstracts + length object.concretes
 initial-count object =
@@ -60,7 +60,7 @@ initial-count object =
 
 -- and those of the object
 pub columns-there : (D : Development) → is_resolved D ≡ true → (n : ℕ) → n ≡ column_count (first_system D) → length (initial_numbers D.object) ≤ n
-columns-there D R n is = let a = initial-count D.object in let b = (resolved D R).abstracts in omega arith
+columns-there D R n is = let a = initial-count D.object in let b = (passed_is_resolved D R).abstracts in omega arith
 
 few-at-most : (n m : ℕ) → nat_le n m ≡ true → n ≤ m
 few-at-most n m h = grind (arith, nat_tests)
@@ -166,8 +166,8 @@ module _ (columns n : ℕ) where
 edge-seen : (D : Development) → is_resolved D ≡ true → (p n : ℕ) (point : Point) → slice_get D.object.points p ≡ Some point → variables_at D.object p ≡ Some n →
     (s s' : State) (vs : List ℤ) (k : EdgeKind) (outcome : Outcome) → Does D.object s vs point.instruction k s' outcome → AreRidersSeen D p k n
 edge-seen D R p n point at count s s' vs k outcome does =
-    let whole = resolved D R in
-    let place = placed D.object whole.object p point at in
+    let whole = passed_is_resolved D R in
+    let place = point_is_placed D.object whole.object p point at in
     let o = place.operation in
     let same : variable_count o ≡ n = same_Some (variable_count o) n (sym (ap (variables_in D.object) at ∙ ap (option_map variable_count) place.is) ∙ count) in
     let outline = (all_scoped D R).outlines p point o at place.is in
@@ -185,7 +185,7 @@ pub outcome-seen : (D : Development) → is_resolved D ≡ true → (p : ℕ) (p
 outcome-seen D R p point at s s' vs count k (Goes q new) does =
     subst (AreRidersSeen D p k) (sym (same-count D.object s s' vs new point.instruction k q does)) (edge-seen D R p (length vs) point at count s s' vs k (Goes q new) does)
 outcome-seen D R p point at s s' vs count k (Answers numbers) does =
-    let place = placed D.object (resolved D R).object p point at in
+    let place = point_is_placed D.object (passed_is_resolved D R).object p point at in
     subst (λ j. AreRidersSeen D p j (length vs)) (answers_next D.object point.operation place.operation s vs k s' point.instruction numbers does)
     (edge-seen D R p (length vs) point at count s s' vs k (Answers numbers) does)
 

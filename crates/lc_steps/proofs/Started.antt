@@ -38,10 +38,10 @@ numbers-are D items is =
     is ∙ ap (λ xs. xs ++ replicate 12 (pos 0, pos 0))
     (append_assoc (map (λ (c : Q.Column). (c.slope, c.start)) D.specification.columns) (map (λ (c : O.Column). (c.slope, c.start)) D.object.concretes) (map (λ (c : Q.Column). (c.slope, c.start)) D.auxiliaries))
 
-pub started : (D : Development) (items : List (ℤ × ℤ)) →
+pub initial_state_of_items : (D : Development) (items : List (ℤ × ℤ)) →
     items ≡ ((map (λ (c : Q.Column). (c.slope, c.start)) D.specification.columns ++ map (λ (c : O.Column). (c.slope, c.start)) D.object.concretes) ++ map (λ (c : Q.Column). (c.slope, c.start)) D.auxiliaries) ++ replicate 12 (pos 0, pos 0) →
     (initial_state items ≡ initial_state (start_numbers D)) × (length items ≡ column_count (first_system D))
-started D items is =
+initial_state_of_items D items is =
     let none : ℤ × ℤ = (pos 0, pos 0) in
     let all = numbers-are D items is in (
       ap initial_state all ∙ fun_ext (λ c. fun_ext (λ i. behind (start_numbers D) 12 c i)),
@@ -51,5 +51,5 @@ started D items is =
 pub started-as : (D : Development) (items : List (ℤ × ℤ)) (r : Result State OutOfMemory) →
     items ≡ ((map (λ (c : Q.Column). (c.slope, c.start)) D.specification.columns ++ map (λ (c : O.Column). (c.slope, c.start)) D.object.concretes) ++ map (λ (c : Q.Column). (c.slope, c.start)) D.auxiliaries) ++ replicate 12 (pos 0, pos 0) →
     IfOk r (λ state. state_of state ≡ initial_state items) → IfOk r (λ state. state_of state ≡ initial_state (start_numbers D))
-started-as D items (Ok state) is h = h ∙ (started D items is).0
+started-as D items (Ok state) is h = h ∙ (initial_state_of_items D items is).0
 started-as D items (Err fault) is h = tt

@@ -54,10 +54,10 @@ any-at p (y ∷ ys) zero x h is = let e : y ≡ x = some_same y x h in rw (e, is
 any-at p (y ∷ ys) (suc j) x h is = or_right (p y) _ (any-at p ys j x h is)
 
 -- the element at a place within a list
-pub element : {N : Type 0} (xs : List N) (j : ℕ) → j < length xs → (x : N) × (slice_get xs j ≡ Some x)
-element [] j lt = absurd (omega (arith, lt))
-element (x ∷ xs) zero lt = (x, refl)
-element (x ∷ xs) (suc j) lt = let e = element xs j (omega (arith, lt)) in (e.0, e.1)
+pub element_at_place : {N : Type 0} (xs : List N) (j : ℕ) → j < length xs → (x : N) × (slice_get xs j ≡ Some x)
+element_at_place [] j lt = absurd (omega (arith, lt))
+element_at_place (x ∷ xs) zero lt = (x, refl)
+element_at_place (x ∷ xs) (suc j) lt = let e = element_at_place xs j (omega (arith, lt)) in (e.0, e.1)
 
 module _ {N T : Type 0} (build : List T → N → T) (Fits : List T → N → Type 0)
     (build-kept : (ts us : List T) (n : N) → Fits ts n → build (ts ++ us) n ≡ build ts n)
@@ -139,7 +139,7 @@ module _ {N T : Type 0} (build : List T → N → T) (Fits : List T → N → Ty
         → (j : ℕ) → slice_get (trees build ns) j ≡ Some (build (trees build ns) n) → ⊥
     fresh ns n ok fits none j h =
         let lt : j < length ns = omega (arith, slice_get_within (trees build ns) j _ h, length-trees ns) in
-        let at = element ns j lt in
+        let at = element_at_place ns j lt in
         let s = stands-at ns j at.0 ok.built at.1 in
         let same = some_same _ _ (sym h ∙ s.0) in
         let is = eq-from (trees build ns) n at.0 ok.distinct fits s.1 same in

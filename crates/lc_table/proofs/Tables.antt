@@ -126,7 +126,7 @@ formula_node_at now ns xs k view ok there = subst (λ t. is_some (slice_get (for
     by None e h =
         let there = formula-there (formulas_of ns xs) (record { 0 = k }) h in
         let lt : k < length xs = omega (arith, slice_get_within (formulas_of ns xs) k _ there, rows.length-trees (tree_of (parts_of ns)) (TreeFits (parts_of ns)) (tree-kept (parts_of ns)) (tree_fits-kept (parts_of ns)) xs) in
-        let at = rows.element xs k lt in
+        let at = rows.element_at_place xs k lt in
         absurd (none_some at.0 (sym e ∙ at.1))
 
 pub same_number : (now : Table) (ns : List TermNode) (xs : List FormulaNode) (a b : FormulaId) → record { terms = ns; formulas = xs } ≡ now → IsNodeTable ns xs
@@ -154,7 +154,7 @@ part_node_at now ns xs k view ok there = subst (λ t. is_some (slice_get (parts 
     by None e h =
         let there = some-there (slice_get (parts_of ns) k) h in
         let lt : k < length ns = omega (arith, slice_get_within (parts_of ns) k _ there.1, rows.length-trees part_of PartFits part-kept part_fits-kept ns) in
-        let at = rows.element ns k lt in
+        let at = rows.element_at_place ns k lt in
         absurd (no_term_node at.0 (sym e ∙ at.1))
 
 -- how many entries there are

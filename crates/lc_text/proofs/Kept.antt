@@ -9,7 +9,7 @@ use Rattle.lc_base.specs.declared.ids.ColId.{ColId}
 use Rattle.lc_sexp.specs.Numerals.{integer_of, variable_of}
 use Rattle.lc_sexp.specs.Parts.{fits, beyond, fits_i64, integer_within, variable_within}
 use Rattle.lc_sexp.specs.Trees.{Tree, Trees, atom, list, none, ◌▸◌, item_count, item_count_of_all}
-use Rattle.lc_reading.proofs.Fine.{IfFine, anything, cond_fine, mapped_fine, both_fine, ended_fine, two_fine, three_fine}
+use Rattle.lc_reading.proofs.Fine.{IfFine, if_fine_unit, cond_fine, mapped_fine, both_fine, ended_fine, two_fine, three_fine}
 use Rattle.lc_reading.specs.Naming.{within}
 use Rattle.lc_reading.specs.Readings.{Reading, fine, flawed, wrong, mapped, both, ended}
 use Rattle.lc_reading.specs.Words.{is, is_long}
@@ -262,7 +262,7 @@ module _ (names : Names) (by : Spelled) (all : AreSpelled names by) where
     body_kept bound d n m (list us ▸ u ▸ ts) long small = unnamed_body _ (IsFormula (d + 1)) _ ts _
     body_kept bound d n m (atom w ▸ u ▸ ts) long small =
         two_fine (λ z. Unit {0}) (IsFormula (d + 1)) (IsFormula (d + 1)) body_of m (atom w) u ts (binder_reading m (atom w)) (formula_reading names (bound ++ (w ∷ [])) (m + 1) u)
-        (anything (binder_reading m (atom w))) (formula_kept (bound ++ (w ∷ [])) (d + 1) (m + 1) u (length_push bound w ∙ ap (λ k. k + 1) long) (omega arith)) (λ x y a b. b)
+        (if_fine_unit (binder_reading m (atom w))) (formula_kept (bound ++ (w ∷ [])) (d + 1) (m + 1) u (length_push bound w ∙ ap (λ k. k + 1) long) (omega arith)) (λ x y a b. b)
 
     formulas_kept : (bound : List (List ℕ)) (d m : ℕ) (ts : Trees) → length bound ≡ d → d + item_count_of_all ts ≤ 4294967296 → IfFine (formulas_reading names bound m ts) (AreFormulas d)
     formulas_kept bound d m none long small = tt

@@ -8,8 +8,8 @@ use Rattle.std.specs.Fmt.{decimal, signed_decimal}
 use Rattle.lc_sexp.specs.Numerals.{are_digits, value_of_digits, natural_of, integer_of, negative_of}
 use Rattle.lc_sexp.specs.Parts.{fits, fits_i64, integer_within}
 
-pub own : IsNumeralModel (λ ds. are_digits ds ≡ true) value_of_digits
-own = numerals_by_fold (λ ds. are_digits ds ≡ true) (search rules) (λ n ds. Rattle.std.specs.Prelude.fold (λ n b. n * 10 + (b - 48)) n ds) (search rules)
+pub decimal_numeral_model : IsNumeralModel (λ ds. are_digits ds ≡ true) value_of_digits
+decimal_numeral_model = numerals_by_fold (λ ds. are_digits ds ≡ true) (search rules) (λ n ds. Rattle.std.specs.Prelude.fold (λ n b. n * 10 + (b - 48)) n ds) (search rules)
 
 natural_at : (ds : List ℕ) (n : ℕ) → are_digits ds ≡ true → value_of_digits ds ≡ n → 0 < length ds → 48 < get_or ds 0 0 → natural_of ds ≡ Some n
 natural_at [] n d v l f = absurd (omega arith)
@@ -21,7 +21,7 @@ natural_at (b ∷ w) n d v l f =
 pub natural_of-decimal : (n : ℕ) → n < 2 ^ 64 → natural_of (decimal n) ≡ Some n
 natural_of-decimal zero h = ap natural_of (decimal_digit 0 (omega arith))
 natural_of-decimal (suc n) h =
-    natural_at (decimal (suc n)) (suc n) (digits_decimal own (suc n) h) (digits_value-decimal own (suc n) h) (decimal_nonempty (suc n) h) (first_decimal (suc n) (omega arith) h)
+    natural_at (decimal (suc n)) (suc n) (digits_decimal decimal_numeral_model (suc n) h) (digits_value-decimal decimal_numeral_model (suc n) h) (decimal_nonempty (suc n) h) (first_decimal (suc n) (omega arith) h)
 
 -- no minus before digits
 digits_integer : (ds : List ℕ) → are_digits ds ≡ true → 0 < length ds → integer_of ds ≡ option_map pos (natural_of ds)
@@ -39,7 +39,7 @@ pub integer_of-signed : (n : ℤ) → fits_i64 n ≡ true → integer_of (signed
 integer_of-signed (pos n) h =
     let small = i64_limit n h in
     let wide : n < 2 ^ 64 = omega arith in
-    digits_integer (decimal n) (digits_decimal own n wide) (decimal_nonempty n wide) ∙ ap (option_map pos) (natural_of-decimal n wide)
+    digits_integer (decimal n) (digits_decimal decimal_numeral_model n wide) (decimal_nonempty n wide) ∙ ap (option_map pos) (natural_of-decimal n wide)
 integer_of-signed (negsuc n) h =
     let small = i64_limit n h in
     let wide : suc n < 2 ^ 64 = omega arith in

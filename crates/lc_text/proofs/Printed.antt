@@ -12,7 +12,7 @@ use Rattle.lc_reading.specs.Reserved.{is_reserved, is_client_name, is_call_colum
 use Rattle.lc_reading.specs.Words.{is, is_long}
 use Rattle.lc_reading.proofs.Words.{is-true}
 use Rattle.lc_text.proofs.Binders.{bound_index-behind}
-use Rattle.lc_text.proofs.Numerals.{own}
+use Rattle.lc_text.proofs.Numerals.{decimal_numeral_model}
 use Rattle.lc_text.specs.Spelled.{binder}
 use Rattle.lc_text.specs.SpelledTree.{binders}
 use Rattle.lc_text.specs.Terms.{bound_index}
@@ -26,7 +26,7 @@ continued (b ∷ w) h =
 
 pub binder_is_name : (d : ℕ) → d < 2 ^ 64 → is_name (binder d) ≡ true
 unfolding begins_name
-binder_is_name d h = continued (decimal d) (digits_decimal own d h)
+binder_is_name d h = continued (decimal d) (digits_decimal decimal_numeral_model d h)
 
 same_refl : (w : List ℕ) → is w w ≡ true
 same_refl [] = refl

@@ -11,7 +11,7 @@ use Rattle.lc_text.specs.declared.scope.ColumnUse.{ColumnUse}
 use Rattle.lc_text.specs.declared.scope.ColumnUse.TheVariants.{Usable, Misplaced, Hidden, Undeclared}
 use Rattle.lc_text.specs.declared.scope.Extra.{Extra}
 use Rattle.lc_text.specs.declared.scope.Extra.TheVariants.{Quantifiers, BuiltColumns, NumberedVariables}
-use Rattle.lc_reading.proofs.Holding.{Holds, anything, mapped_holds, both_holds, ended_holds, if_holds}
+use Rattle.lc_reading.proofs.Holding.{Holds, holds_unit, mapped_holds, both_holds, ended_holds, if_holds}
 use Rattle.lc_reading.specs.Naming.{within}
 use Rattle.lc_reading.specs.Readings.{Reading, wrong}
 use Rattle.lc_reading.specs.Words.{is_long}
@@ -119,7 +119,7 @@ mutual
   product_holds names P C F G all n m (t ▸ none) = tt
   product_holds names P C F G all n m (t ▸ u ▸ ts) =
       ended_holds (λ (p : ℤ × Term). P p.1) _ ts _
-      (both_holds (λ (z : ℤ). Unit {0}) P (λ (p : ℤ × Term). P p.1) pair _ _ (anything (number_reading m t)) (term_holds names P C F G all (m + item_count t) u) (λ x y h g. g))
+      (both_holds (λ (z : ℤ). Unit {0}) P (λ (p : ℤ × Term). P p.1) pair _ _ (holds_unit (number_reading m t)) (term_holds names P C F G all (m + item_count t) u) (λ x y h g. g))
 
   pub access_holds : (names : Names) (P : Term → Type 0) (C : Column → Type 0) (F : Formula → Type 0) (G : Formulas → Type 0) → Kept names P C F G → (n m : ℕ) (ts : Trees) → Holds (λ p. C p.0 × P p.1) (access_reading names [] n m ts)
   access_holds names P C F G all n m none = tt

@@ -25,7 +25,7 @@ use Rattle.lc_text.specs.declared.words.Connective.{Connective}
 use Rattle.lc_text.specs.declared.words.Connective.TheVariants as C
 use Rattle.lc_text.specs.declared.words.Operation.{Operation}
 use Rattle.lc_text.specs.declared.words.Operation.TheVariants as O
-use Rattle.lc_reading.proofs.Fine.{IfFine, anything, cond_fine, mapped_fine, both_fine, ended_fine, two_fine, three_fine}
+use Rattle.lc_reading.proofs.Fine.{IfFine, if_fine_unit, cond_fine, mapped_fine, both_fine, ended_fine, two_fine, three_fine}
 
 -- each free variable passes
 abbrev pub among : (ℕ → Bool) → Test
@@ -110,7 +110,7 @@ operation_in allowed n (Some O.Read) terms product access h g i =
 
 built_in : (allowed : ℕ → Bool) (n : ℕ) (b : Option Built) (numbers : Reading (ℤ × ℤ)) (store : Reading ((Column × Term) × Term)) → IfFine store (StoreIn allowed) → IfFine (built_reading n b numbers store) (ColumnIn allowed)
 built_in allowed n None numbers store h = tt
-built_in allowed n (Some B.Affine) numbers store h = mapped_fine (λ p. Unit {0}) (ColumnIn allowed) affine_of numbers (anything numbers) (λ p a. refl)
+built_in allowed n (Some B.Affine) numbers store h = mapped_fine (λ p. Unit {0}) (ColumnIn allowed) affine_of numbers (if_fine_unit numbers) (λ p a. refl)
 built_in allowed n (Some B.Store) numbers store h =
     mapped_fine (StoreIn allowed) (ColumnIn allowed) store_of store h
     (λ p a. and_true (column_passes (among allowed) p.0.0 && term_passes (among allowed) p.0.1) (term_passes (among allowed) p.1) (and_true (column_passes (among allowed) p.0.0) (term_passes (among allowed) p.0.1) a.0.0 a.0.1) a.1)
@@ -136,7 +136,7 @@ mutual
   product_in allowed names low bound n m (t ▸ none) = tt
   product_in allowed names low bound n m (t ▸ u ▸ ts) =
       two_fine (λ z. Unit {0}) (TermIn allowed) (ProductIn allowed) pair m t u ts (number_reading m t) (term_reading names bound (m + item_count t) u)
-      (anything (number_reading m t)) (term_in allowed names low bound (m + item_count t) u) (λ x y a b. b)
+      (if_fine_unit (number_reading m t)) (term_in allowed names low bound (m + item_count t) u) (λ x y a b. b)
 
   access_in : (allowed : ℕ → Bool) (names : Names) → NamesIn allowed names → (bound : List (List ℕ)) (n m : ℕ) (ts : Trees) → IfFine (access_reading names bound n m ts) (AccessIn allowed)
   access_in allowed names low bound n m none = tt
@@ -211,7 +211,7 @@ mutual
   body_in allowed names low bound n m (t ▸ none) = tt
   body_in allowed names low bound n m (t ▸ u ▸ ts) =
       two_fine (λ z. Unit {0}) (FormulaIn allowed) (FormulaIn allowed) body_of m t u ts (binder_reading m t) (formula_reading names (bound_inside t bound) (m + item_count t) u)
-      (anything (binder_reading m t)) (formula_in allowed names low (bound_inside t bound) (m + item_count t) u) (λ x y a b. b)
+      (if_fine_unit (binder_reading m t)) (formula_in allowed names low (bound_inside t bound) (m + item_count t) u) (λ x y a b. b)
 
   pub formulas_in : (allowed : ℕ → Bool) (names : Names) → NamesIn allowed names → (bound : List (List ℕ)) (m : ℕ) (ts : Trees) → IfFine (formulas_reading names bound m ts) (FormulasIn allowed)
   formulas_in allowed names low bound m none = λ k. refl

@@ -54,8 +54,8 @@ proofs_opened D d file es one (fs, certifies, proves) same read =
     let here = subst (λ x. Certifies x file es) same read in
     (here, subst (λ l. ProvesAll l (conditions D)) (one D file fs es certifies here) proves)
 
-pub certified : (old : Old) (file : List ℕ) → Certifies (development_in old.accepted) file (entries_in old.certificate) × ProvesAll (entries_in old.certificate) (conditions (development_in old.accepted)) → IsCertified old
-certified old file h = (file, h.0, h.1)
+pub old_is_certified : (old : Old) (file : List ℕ) → Certifies (development_in old.accepted) file (entries_in old.certificate) × ProvesAll (entries_in old.certificate) (conditions (development_in old.accepted)) → IsCertified old
+old_is_certified old file h = (file, h.0, h.1)
 
 -- it is not refused
 pub not_refused : (A : Type 0) (D d : Development) (file : List ℕ) (fault : Fault) (text : List ℕ) (status : ℕ) → IsNotRefused → IsProvenBy D file → d ≡ D → C.IsAnswerTo d file (Err fault) → ToldFault fault text status → A

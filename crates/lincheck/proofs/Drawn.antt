@@ -5,7 +5,7 @@ use Rattle.lc_seq.specs.Specification.{Specification}
 use Rattle.lincheck.specs.Draw.{AnswersDrawn}
 use Rattle.lincheck.specs.Reading.{within_limit, most_bytes}
 use Rattle.lincheck.proofs.Judgements.{wrong_of_long}
-use Rattle.lincheck.proofs.Truncated.{either}
+use Rattle.lincheck.proofs.Truncated.{below_or_from}
 
 -- the beginning of a file that is beyond the limit says nothing, so item 0 is wrong in it and in the file
 of_long : (spec : Specification) (n : ℕ) (file text : List ℕ) (status : ℕ) → n ≡ most_bytes → n ≤ length file → AnswersDrawn spec (take n file) text status → AnswersDrawn spec file text status
@@ -14,7 +14,7 @@ of_long spec n file text status e long (inr (item, wrong, told)) = inr (item, wr
 
 -- the answer to what is read of a file is that to the file
 of_whole : (spec : Specification) (n : ℕ) (file text : List ℕ) (status : ℕ) → n ≡ most_bytes → AnswersDrawn spec (take n file) text status → AnswersDrawn spec file text status
-of_whole spec n file text status e is = elim (either (length file) n) [
+of_whole spec n file text status e is = elim (below_or_from (length file) n) [
   | inl h ↦ subst (λ l. AnswersDrawn spec l text status) (take_all n file (omega arith)) is
   | inr h ↦ of_long spec n file text status e h is
 ]

@@ -12,9 +12,9 @@ IsFedSoFar WasFed old new before after left =
     (bytes : List ℕ) × (length bytes + left ≡ most_bytes) × Consumes before after bytes × IsFedOn WasFed old new bytes
 
 -- there is as much room as is left, and as the buffer has, which keeps its length if its front is filled
-pub filled : (front piece : List ℕ) (room left : ℕ) → room ≡ min left 16384 → length piece ≡ 16384 → length front ≡ length (take room piece)
+pub filled_front_length : (front piece : List ℕ) (room left : ℕ) → room ≡ min left 16384 → length piece ≡ 16384 → length front ≡ length (take room piece)
     → (room ≤ left) × (length front ≡ room) × (length (front ++ drop room piece) ≡ 16384)
-filled front piece room left is whole same =
+filled_front_length front piece room left is whole same =
     let least : room ≤ left = rw is (min-le_left left 16384) in
     let most : room ≤ 16384 = rw is (min-le_right left 16384) in
     let front_is : length front ≡ room = same ∙ length-take-le room piece (omega (arith, most, whole)) in

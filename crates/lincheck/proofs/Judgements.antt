@@ -29,7 +29,7 @@ use Rattle.lincheck.specs.declared.answer.Answer.{Answer}
 use Rattle.lincheck.specs.declared.answer.Failure.{Failure}
 use Rattle.lincheck.specs.declared.judge.Judgement.{Judgement}
 use Rattle.lincheck.specs.declared.judge.Judgement.TheVariants.{Linearizable, Overflow}
-use Rattle.lincheck.proofs.Truncated.{either, said_of_whole, refusal_of_whole}
+use Rattle.lincheck.proofs.Truncated.{below_or_from, said_of_whole, refusal_of_whole}
 
 -- what is answered of the order that the text says makes the judgement
 judged : (spec : Specification) (bytes : List ℕ) (history : List Event) (order : List Entry) (result : Result (Unit {0}) F.JudgeFault) → SaysHistory spec.operations bytes history order
@@ -47,22 +47,22 @@ order_judged spec bytes history order seen result says same is =
     (subst (λ (l : List (Done TextCall Pick (Vec ℤ Global))). IsJudged (text_step spec.operations) (TextFits spec.operations) (start_of spec.columns) history (entries_view l) result) same is)
 
 -- a fault of the text is its judgement
-pub unread : (spec : Specification) (bytes : List ℕ) (fault : Fault) → IsRefusedAt (IsWrongItem spec.operations bytes) fault → IsJudgement spec bytes (Err fault)
-unread spec bytes (Refused (HistoryShape item)) wrong = wrong
-unread spec bytes (Refused (Text n)) wrong = absurd wrong
-unread spec bytes (Refused (Shape n)) wrong = absurd wrong
-unread spec bytes (Refused (Unknown n)) wrong = absurd wrong
-unread spec bytes (Refused (Repeated n)) wrong = absurd wrong
-unread spec bytes (Refused (Auxiliary n)) wrong = absurd wrong
-unread spec bytes (Refused (Bound n)) wrong = absurd wrong
-unread spec bytes (Refused (CertText n)) wrong = absurd wrong
-unread spec bytes (Refused (CertShape n)) wrong = absurd wrong
-unread spec bytes (Refused (Missing n)) wrong = absurd wrong
-unread spec bytes (Refused (Extra n)) wrong = absurd wrong
-unread spec bytes (Refused (Proof k n r)) wrong = absurd wrong
-unread spec bytes (Refused (Large k n)) wrong = absurd wrong
-unread spec bytes (Refused (Order k r)) wrong = absurd wrong
-unread spec bytes OutOfMemory wrong = tt
+pub unread_is_judged : (spec : Specification) (bytes : List ℕ) (fault : Fault) → IsRefusedAt (IsWrongItem spec.operations bytes) fault → IsJudgement spec bytes (Err fault)
+unread_is_judged spec bytes (Refused (HistoryShape item)) wrong = wrong
+unread_is_judged spec bytes (Refused (Text n)) wrong = absurd wrong
+unread_is_judged spec bytes (Refused (Shape n)) wrong = absurd wrong
+unread_is_judged spec bytes (Refused (Unknown n)) wrong = absurd wrong
+unread_is_judged spec bytes (Refused (Repeated n)) wrong = absurd wrong
+unread_is_judged spec bytes (Refused (Auxiliary n)) wrong = absurd wrong
+unread_is_judged spec bytes (Refused (Bound n)) wrong = absurd wrong
+unread_is_judged spec bytes (Refused (CertText n)) wrong = absurd wrong
+unread_is_judged spec bytes (Refused (CertShape n)) wrong = absurd wrong
+unread_is_judged spec bytes (Refused (Missing n)) wrong = absurd wrong
+unread_is_judged spec bytes (Refused (Extra n)) wrong = absurd wrong
+unread_is_judged spec bytes (Refused (Proof k n r)) wrong = absurd wrong
+unread_is_judged spec bytes (Refused (Large k n)) wrong = absurd wrong
+unread_is_judged spec bytes (Refused (Order k r)) wrong = absurd wrong
+unread_is_judged spec bytes OutOfMemory wrong = tt
 
 -- the beginning of a file that is beyond the limit says nothing
 says_nothing : (Holds : Specification → List Event → List Entry → Type 0) (spec : Specification) (n : ℕ) (file : List ℕ) → n ≡ most_bytes → n ≤ length file → SaysSuch Holds spec (take n file) → ⊥
@@ -94,7 +94,7 @@ of_long spec n file (Err OutOfMemory) e long is = tt
 
 -- the judgement of what is read of a file is that of the file
 of_whole : (spec : Specification) (n : ℕ) (file : List ℕ) (judgement : Result Judgement Fault) → n ≡ most_bytes → IsJudgement spec (take n file) judgement → IsJudgement spec file judgement
-of_whole spec n file judgement e is = elim (either (length file) n) [
+of_whole spec n file judgement e is = elim (below_or_from (length file) n) [
   | inl h ↦ subst (λ l. IsJudgement spec l judgement) (take_all n file (omega arith)) is
   | inr h ↦ of_long spec n file judgement e h is
 ]

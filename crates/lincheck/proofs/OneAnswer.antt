@@ -4,8 +4,8 @@ use Rattle.lc_base.specs.Line.{refusal_line_of}
 use Rattle.lc_base.specs.declared.refusal.Fault.TheVariants.{Refused, OutOfMemory}
 use Rattle.lc_base.specs.declared.refusal.Refusal.{Refusal}
 use Rattle.lc_kernel.proofs.First.{fails_not_derives, fails_once}
-use Rattle.lc_kernel.proofs.Sound.{valid}
-use Rattle.lc_proof_text.proofs.Founded.{IsFounded, founded, founded_hypotheses}
+use Rattle.lc_kernel.proofs.Sound.{derived_is_valid}
+use Rattle.lc_proof_text.proofs.Founded.{IsFounded, fine_claim_founded, founded_hypotheses}
 use Rattle.lc_proof_text.specs.Files.{Claim, file_reading}
 use Rattle.lc_reading.proofs.Files.{says_not_refused, says_one, refused_once}
 use Rattle.lc_reading.specs.Files.{Says, IsFirstRefusal}
@@ -44,8 +44,8 @@ one_answer file text text' status status' (Err OutOfMemory, verdict, told) (verd
 -- a claim that is read, and whose proof derives it, is true
 proved_is_true : (file : List ℕ) (claim : Claim) → Says file_reading file claim → IsProved claim → IsTrueClaim claim
 proved_is_true file claim (ts, reads, says) proves =
-    let has : IsFounded claim (item_count_of_all ts) = founded ts claim says in
-    valid claim.variables (parts claim.hypotheses) claim.goal claim.proof proves
+    let has : IsFounded claim (item_count_of_all ts) = fine_claim_founded ts claim says in
+    derived_is_valid claim.variables (parts claim.hypotheses) claim.goal claim.proof proves
     (founded_hypotheses claim (item_count_of_all ts) has)
     (has.goal 0)
 

@@ -25,23 +25,23 @@ use Rattle.lincheck.specs.declared.answer.Failure.{Failure}
 use Rattle.lincheck.proofs.Truncated.{said_of_whole, refusal_of_whole, fault_of_whole, reading_of_whole}
 
 -- what is read of a file says what the file says, or is refused as the file is
-pub opened : (known : Option (List ℕ)) (bytes seen : List ℕ) (d : Development) → IfSome known (λ file. bytes ≡ within_limit file) → seen ≡ bytes → Says file_reading seen (development_view d)
+pub opened_file_says : (known : Option (List ℕ)) (bytes seen : List ℕ) (d : Development) → IfSome known (λ file. bytes ≡ within_limit file) → seen ≡ bytes → Says file_reading seen (development_view d)
     → IfSome known (λ file. Says file_reading file (development_view d))
-opened None bytes seen d read same says = tt
-opened (Some file) bytes seen d read same says = said_of_whole file_reading file (development_view d) (subst (λ b. Says file_reading b (development_view d)) (same ∙ read) says)
+opened_file_says None bytes seen d read same says = tt
+opened_file_says (Some file) bytes seen d read same says = said_of_whole file_reading file (development_view d) (subst (λ b. Says file_reading b (development_view d)) (same ∙ read) says)
 
-pub refused : (known : Option (List ℕ)) (bytes seen : List ℕ) (fault : Fault) (text : List ℕ) (status : ℕ) → IfSome known (λ file. bytes ≡ within_limit file) → seen ≡ bytes
+pub refused_file_told : (known : Option (List ℕ)) (bytes seen : List ℕ) (fault : Fault) (text : List ℕ) (status : ℕ) → IfSome known (λ file. bytes ≡ within_limit file) → seen ≡ bytes
     → IsAnswerTo development_view file_reading seen (Err fault) → ToldFault fault text status → IfSome known (λ file. TellsRefusal file text status)
-refused None bytes seen fault text status read same is told = tt
-refused (Some file) bytes seen (Refused refusal) text status read same is told =
+refused_file_told None bytes seen fault text status read same is told = tt
+refused_file_told (Some file) bytes seen (Refused refusal) text status read same is told =
     (refusal, refusal_of_whole file_reading file refusal (subst (λ b. IsFirstRefusal file_reading b refusal) (same ∙ read) is), told)
-refused (Some file) bytes seen OutOfMemory text status read same is told = absurd told
+refused_file_told (Some file) bytes seen OutOfMemory text status read same is told = absurd told
 
 -- a text of a development that is read answers its file, and so does a refusal that is reported
-pub shown : (text_of : S.Development → List ℕ) (known : Option (List ℕ)) (D : S.Development) (text : List ℕ) → IfSome known (λ file. Says file_reading file D) → text ≡ text_of D
+pub text_answers_development : (text_of : S.Development → List ℕ) (known : Option (List ℕ)) (D : S.Development) (text : List ℕ) → IfSome known (λ file. Says file_reading file D) → text ≡ text_of D
     → IfSome known (λ file. AnswersDevelopment text_of file text 0)
-shown text_of None D text says is = tt
-shown text_of (Some file) D text says is = inr (D, says, is, refl)
+text_answers_development text_of None D text says is = tt
+text_answers_development text_of (Some file) D text says is = inr (D, says, is, refl)
 
 pub told_refused : (text_of : S.Development → List ℕ) (known : Option (List ℕ)) (text : List ℕ) (status : ℕ) → IfSome known (λ file. TellsRefusal file text status)
     → IfSome known (λ file. AnswersDevelopment text_of file text status)

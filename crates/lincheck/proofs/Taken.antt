@@ -17,7 +17,7 @@ taken_from : (file : List ℕ) (right : Option (List ℕ)) (bytes : List ℕ) (n
 taken_from file None bytes n consumed bound end = absurd consumed
 taken_from file (Some ys) bytes n consumed bound end = from_parts bytes ys n bound end ∙ ap (take n) (sym consumed)
 
-pub taken : (known left right : Option (List ℕ)) (bytes : List ℕ) (n : ℕ) → IfSome known (λ file. left ≡ Some file) → Consumes left right bytes
+pub consumed_is_taken : (known left right : Option (List ℕ)) (bytes : List ℕ) (n : ℕ) → IfSome known (λ file. left ≡ Some file) → Consumes left right bytes
     → length bytes ≤ n → (length bytes + 1 ≤ n → IsAtEnd right) → IfSome known (λ file. bytes ≡ take n file)
-taken None left right bytes n opened consumed bound end = tt
-taken (Some file) left right bytes n opened consumed bound end = taken_from file right bytes n (subst (λ l. Consumes l right bytes) opened consumed) bound end
+consumed_is_taken None left right bytes n opened consumed bound end = tt
+consumed_is_taken (Some file) left right bytes n opened consumed bound end = taken_from file right bytes n (subst (λ l. Consumes l right bytes) opened consumed) bound end

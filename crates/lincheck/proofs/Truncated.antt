@@ -71,21 +71,21 @@ wrong_at_limit bytes h =
     let b = there (text_of bytes) file_limit (omega (arith, length-uncommented false bytes)) in
     wrong_byte (open_count (take file_limit (text_of bytes))) (slice_get (text_of bytes) file_limit) b.0 b.1
 
-pub either : (j k : ℕ) → (j < k) ⊎ (k ≤ j)
-either j zero = inr (omega arith)
-either zero (suc k) = inl (omega arith)
-either (suc j) (suc k) = elim (either j k) [ inl h ↦ inl (omega arith) | inr h ↦ inr (omega arith) ]
+pub below_or_from : (j k : ℕ) → (j < k) ⊎ (k ≤ j)
+below_or_from j zero = inr (omega arith)
+below_or_from zero (suc k) = inl (omega arith)
+below_or_from (suc j) (suc k) = elim (below_or_from j k) [ inl h ↦ inl (omega arith) | inr h ↦ inr (omega arith) ]
 
 -- the first fault of a longer file is at the limit at the latest
 within : (bytes : List ℕ) (offset : ℕ) → file_limit < length bytes → IsFirstFault bytes offset → offset ≤ file_limit
-within bytes offset long fault = elim (either file_limit offset) [
+within bytes offset long fault = elim (below_or_from file_limit offset) [
   | inl h ↦ absurd (true≢false (sym (wrong_at_limit bytes long) ∙ fault.first file_limit h))
   | inr h ↦ h
 ]
 
 -- the first fault of the beginning is that of the file
 pub fault_of_whole : (n : ℕ) (bytes : List ℕ) (offset : ℕ) → n ≡ most_bytes → IsFirstFault (take n bytes) offset → IsFirstFault bytes offset
-fault_of_whole n bytes offset e fault = elim (either (length bytes) n) [
+fault_of_whole n bytes offset e fault = elim (below_or_from (length bytes) n) [
   | inl h ↦ subst (λ l. IsFirstFault l offset) (take_all n bytes (omega arith)) fault
   | inr h ↦
       let long : file_limit < length (take n bytes) = omega (arith, length-take n bytes) in

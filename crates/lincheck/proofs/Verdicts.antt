@@ -31,8 +31,8 @@ listed : (P : List T.Formula → Type 0) (fs : List T.Formula) → P fs → P (T
 listed P fs h = subst P (sym (parts_formulas fs)) h
 
 -- a proof that derives its goal makes the verdict
-pub proved : (bytes : List ℕ) (a : FormulaFile) (u : Unit {0}) → Says file_reading bytes (claim_in a) → Answered a (Ok u) → IsVerdict bytes (Ok u)
-proved bytes a u says derives =
+pub derived_makes_verdict : (bytes : List ℕ) (a : FormulaFile) (u : Unit {0}) → Says file_reading bytes (claim_in a) → Answered a (Ok u) → IsVerdict bytes (Ok u)
+derived_makes_verdict bytes a u says derives =
     (claim_in a, says, listed (λ H. DerivesGoal a.goal.vars H (formula_in a.terms a.goal.goal) (proof_of a.proof)) (formulas_in a.terms a.goal.hypotheses) derives)
 
 -- a proof that was not found to hold makes the verdict a refusal
@@ -64,7 +64,7 @@ verdict_of_whole file (Err (Refused refusal)) (inr (claim, step, flaw, says, fai
 verdict_of_whole file (Err OutOfMemory) h = tt
 
 -- what is reported about the verdict on what is read answers the file
-pub answered : (known : Option (List ℕ)) (bytes seen : List ℕ) (verdict : Result (Unit {0}) Fault) (text : List ℕ) (status : ℕ) → IfSome known (λ file. bytes ≡ within_limit file) → seen ≡ bytes
+pub verdict_answers_file : (known : Option (List ℕ)) (bytes seen : List ℕ) (verdict : Result (Unit {0}) Fault) (text : List ℕ) (status : ℕ) → IfSome known (λ file. bytes ≡ within_limit file) → seen ≡ bytes
     → IsVerdict seen verdict → Told (codes "proved") verdict text status → IfSome known (λ file. AnswersFormula file text status)
-answered None bytes seen verdict text status read same is told = tt
-answered (Some file) bytes seen verdict text status read same is told = (verdict, verdict_of_whole file verdict (subst (λ b. IsVerdict b verdict) (same ∙ read) is), told)
+verdict_answers_file None bytes seen verdict text status read same is told = tt
+verdict_answers_file (Some file) bytes seen verdict text status read same is told = (verdict, verdict_of_whole file verdict (subst (λ b. IsVerdict b verdict) (same ∙ read) is), told)

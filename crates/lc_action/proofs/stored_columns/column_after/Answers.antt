@@ -1,7 +1,7 @@
 use Rattle.std.proofs.Common.{◌∙◌, sym, subst, map}
 use Rattle.std.proofs.lemmas.List.{take_all}
 use Rattle.lc_action.specs.Telling.{entry_of}
-use Rattle.lc_action.proofs.Columns.{IsAbsent, missing}
+use Rattle.lc_action.proofs.Columns.{IsAbsent, column_at_absent}
 use Rattle.lc_action.proofs.Entries.{entry_found, absent_step}
 use Rattle.lc_action.proofs.stored_columns.column_after.Goals as goal
 
@@ -16,5 +16,5 @@ loop-entry-preserved c =
 
 pub returns : goal.returns
 returns c =
-    sym (missing c.args.column.0 (map entry_of c.args.columns.now)
+    sym (column_at_absent c.args.column.0 (map entry_of c.args.columns.now)
     (subst (λ ps. IsAbsent c.args.column.0 (map entry_of ps)) (take_all c.loop-entry.entry-index c.args.columns.now c.loop-entry-test.false) c.loop-entry.invariant))

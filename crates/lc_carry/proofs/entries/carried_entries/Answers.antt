@@ -4,7 +4,7 @@ use Rattle.std.specs.declared.alloc.Global.{Global}
 use Rattle.std.proofs.lemmas.List.{length-map}
 use Rattle.lc_carry.proofs.PartByPart.{part_carried, all_carried, same_carried}
 use Rattle.lc_carry.proofs.Few.{few_carried}
-use Rattle.lc_carry.proofs.Parts.{ended}
+use Rattle.lc_carry.proofs.Parts.{no_part_ends}
 use Rattle.lc_carry.specs.Carried.{carried_from, carried_proof}
 use Rattle.lc_carry.specs.OldProofs.{proof_for}
 use Rattle.lc_cert.specs.Certificates.{HaveFewSteps}
@@ -23,7 +23,7 @@ returns-in_default-clause-exactly c =
     let es = entries_in c.args.certificate.now in
     let E = development_view c.args.development.now in
     let before = c.parts.stream in
-    let none : IsEnd E before c.next_part.new.self = ended E c.next_part.new.terms before c.next_part.new.self c.in_ok-part.field-0 c.in_default.not-Some c.in_ok-part.ensures.next in
+    let none : IsEnd E before c.next_part.new.self = no_part_ends E c.next_part.new.terms before c.next_part.new.self c.in_ok-part.field-0 c.in_default.not-Some c.in_ok-part.ensures.next in
     all_carried E (proof_for c.in_ok-proofs.proofs) (entries_of c.parts.entries.items) _ (next_number before) (conditions_left E before) none.nothing c.parts.invariant
     ∙ same_carried E (proof_for c.in_ok-proofs.proofs) (carried_proof D es E) 0 (conditions E) c.in_ok-proofs.ensures
 
@@ -33,7 +33,7 @@ returns-in_default-clause-few c = λ few.
     let es = entries_in c.args.certificate.now in
     let E = development_view c.args.development.now in
     let before = c.parts.stream in
-    let none : IsEnd E before c.next_part.new.self = ended E c.next_part.new.terms before c.next_part.new.self c.in_ok-part.field-0 c.in_default.not-Some c.in_ok-part.ensures.next in
+    let none : IsEnd E before c.next_part.new.self = no_part_ends E c.next_part.new.terms before c.next_part.new.self c.in_ok-part.field-0 c.in_default.not-Some c.in_ok-part.ensures.next in
     let all = all_carried E (proof_for c.in_ok-proofs.proofs) (entries_of c.parts.entries.items) _ (next_number before) (conditions_left E before) none.nothing c.parts.invariant
     ∙ same_carried E (proof_for c.in_ok-proofs.proofs) (carried_proof D es E) 0 (conditions E) c.in_ok-proofs.ensures in
     subst HaveFewSteps (sym all) (few_carried D es E few)

@@ -4,7 +4,7 @@ use Rattle.std.specs.Prelude.{Vec}
 use Rattle.std.specs.declared.alloc.Global.{Global}
 use Rattle.std.proofs.lemmas.List.{length-map}
 use Rattle.lc_carry.proofs.Least.{part_noted, all_noted}
-use Rattle.lc_carry.proofs.Parts.{ended}
+use Rattle.lc_carry.proofs.Parts.{no_part_ends}
 use Rattle.lc_carry.specs.Carried.{least_number}
 use Rattle.lc_carry.specs.TextNumbers.{number_of}
 use Rattle.lc_cert.specs.CertificateView.{entries_in}
@@ -21,7 +21,7 @@ returns-in_default c = λ t.
     let es = entries_in c.args.old.now.certificate.now in
     let to = column_for c.args.old.now.columns.now in
     let before = c.parts.stream in
-    let none : IsEnd d before c.next_part.new.self = ended d c.next_part.new.terms before c.next_part.new.self c.in_ok-part.field-0 c.in_default.not-Some c.in_ok-part.ensures.next in
+    let none : IsEnd d before c.next_part.new.self = no_part_ends d c.next_part.new.terms before c.next_part.new.self c.in_ok-part.field-0 c.in_default.not-Some c.in_ok-part.ensures.next in
     all_noted d es to t (number_of c.parts.numbers t) _ (next_number before) (conditions_left d before) none.nothing (c.parts.invariant t)
 
 pub parts-preserved : goal.parts-preserved

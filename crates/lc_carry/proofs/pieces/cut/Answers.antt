@@ -2,7 +2,7 @@ use Rattle.std.proofs.Common.{◌≡◌, ◌+◌, ◌++◌, ◌≤◌, ◌∷◌
 use Rattle.std.proofs.lemmas.List.{drop_more}
 use Rattle.std.specs.Borrow.{Bor}
 use Rattle.std.specs.List.{slice_range}
-use Rattle.lc_carry.proofs.Cuts.{range_more, depth_within, longer}
+use Rattle.lc_carry.proofs.Cuts.{range_more, depth_within, pieces_byte_longer}
 use Rattle.lc_carry.specs.Pieces.{pieces_behind, pieces}
 use Rattle.lc_carry.proofs.pieces.cut.Goals as goal
 
@@ -18,7 +18,7 @@ loop-place-preserved-then-not-begins c =
     let before : done ++ pieces_behind n w (b ∷ drop (i + 1) t) ≡ pieces t = sym (ap (λ l. done ++ pieces_behind n w l) (drop_more t i 0 c.loop-place-test.true)) ∙ c.loop-place.invariant.all in
     record {
       all = ap (λ m. done ++ pieces_behind m now (drop (i + 1) t)) c.depth_behind-depth.ensures
-          ∙ longer done (pieces t) n w now (drop (i + 1) t) b (sym c.begins.ensures ∙ c.if-not-begins.true) (range_more t c.loop-place.start i c.loop-place.invariant.start c.loop-place-test.true) before;
+          ∙ pieces_byte_longer done (pieces t) n w now (drop (i + 1) t) b (sym c.begins.ensures ∙ c.if-not-begins.true) (range_more t c.loop-place.start i c.loop-place.invariant.start c.loop-place-test.true) before;
       start = omega (arith, c.loop-place.invariant.start);
       depth = subst (λ m. m ≤ i + 1) (sym c.depth_behind-depth.ensures) (depth_within n b i c.loop-place.invariant.depth);
     }

@@ -1,6 +1,6 @@
 use Rattle.std.proofs.Common.{◌≡◌, ℕ, Some, sym, ap, ◌∙◌, subst}
 use Rattle.std.proofs.lemmas.Result.{IfOk-weaker}
-use Rattle.lc_carry.proofs.Keys.{entered, entered_keeps}
+use Rattle.lc_carry.proofs.Keys.{place_in_inserted, entered_keeps}
 use Rattle.lc_carry.specs.Pieces.{kept_in, KeepsPieces}
 use Rattle.lc_reading.specs.Listed.{place_of}
 use Rattle.lc_carry.proofs.pieces.enter_piece.Goals as goal
@@ -14,5 +14,5 @@ returns-clause-number c =
     let new = c.insert_full.new.self.keys in
     let items : c.in_ok-piece.piece.items ≡ c.args.piece.now = c.in_ok-piece.ensures.items_if_clones_equal (λ x y e. e) in
     let here : place_of (kept_in new) c.args.piece.now ≡ Some c.in_ok-place.place =
-    ap (λ ks. place_of (kept_in ks) c.args.piece.now) c.in_ok-place.ensures.keys ∙ sym (ap (place_of _) items) ∙ entered old c.in_ok-piece.piece ∙ ap Some (sym c.in_ok-place.ensures.index) in
+    ap (λ ks. place_of (kept_in ks) c.args.piece.now) c.in_ok-place.ensures.keys ∙ sym (ap (place_of _) items) ∙ place_in_inserted old c.in_ok-piece.piece ∙ ap Some (sym c.in_ok-place.ensures.index) in
     IfOk-weaker c.number_at.result (λ (n : ℕ). n ≡ c.in_ok-place.place) (λ (n : ℕ). place_of (kept_in new) c.args.piece.now ≡ Some n) (λ n e. here ∙ ap Some (sym e)) c.number_at.ensures

@@ -2,7 +2,7 @@ use Rattle.std.proofs.Common.{◌*◌, ◌≤◌, ◌<◌, length, ap, sym, subs
 use Rattle.lc_base.specs.Limits.{condition_limit}
 use Rattle.lc_term.specs.View.{formula_of}
 use Rattle.lc_object.specs.View.{point_of}
-use Rattle.lc_outline.proofs.Resolving.{resolved}
+use Rattle.lc_outline.proofs.Resolving.{passed_is_resolved}
 use Rattle.lc_outline.specs.Development.{asserts_at}
 use Rattle.lc_outline.specs.DevelopmentView.{development_view}
 use Rattle.lc_cond.specs.Stretches.{IsWithin}
@@ -32,7 +32,7 @@ returns-clause-with c =
     let place = c.args.wanted.place in
     let each = c.action_count-each.result in
     let size = seen_length formula_of c.asserts_at-count.result.now (asserts_at D k) c.asserts_at-count.ensures in
-    point_adds D (resolved D c.args.development.now.resolved) c.args.conditions.now.items c.push_point_stretch.new.terms c.push_point_stretch.new.conditions.items place (s.from * each) s k (point_of c.args.point.now)
+    point_adds D (passed_is_resolved D c.args.development.now.resolved) c.args.conditions.now.items c.push_point_stretch.new.terms c.push_point_stretch.new.conditions.items place (s.from * each) s k (point_of c.args.point.now)
     (subst (λ m. IsWithin m s) size c.stretch_with-asked.ensures.within) (asserts_stay_few D c.args.development.now.resolved c.args.development.now.limited k) (ap (λ m. s.from * m) c.action_count-each.ensures)
     (subst (λ m. place < length (asserts_at D k) * m → (s.from * m ≤ place) × (place < s.to * m)) c.action_count-each.ensures
     (subst (λ m. place < m * each → (s.from * each ≤ place) × (place < s.to * each)) size c.stretch_with-asked.ensures.has))

@@ -7,7 +7,7 @@ use Rattle.lc_term.specs.View.{formula_of, formulas_of}
 use Rattle.lc_table.specs.Tables.{formulas_in}
 use Rattle.lc_outline.specs.Development.{all_actions, invariant_of}
 use Rattle.lc_outline.specs.DevelopmentView.{development_view}
-use Rattle.lc_outline.proofs.Resolving.{resolved}
+use Rattle.lc_outline.proofs.Resolving.{passed_is_resolved}
 use Rattle.lc_cond.specs.Crossings.{AreCrossings, HaveGoals}
 use Rattle.lc_cond.specs.Stretches.{IsWithin, stretch_of, stable_from}
 use Rattle.std.specs.Prelude.{option_map}
@@ -40,7 +40,7 @@ push_conjuncts-requires-clause-few c =
     let hs = formulas_in t0 c.args.frame.now in
     let crosses = c.in_ok-crossings.ensures.crossings hs (formulas_are t0 c.args.frame.now c.requires.frame) in
     let each = crossings_length c.entered_crossings.new.terms D c.args.variables (hs ++ (invariant_of D ++ fs)) (stretch_of s fs) (all_actions D) c.in_ok-crossings.crossings.items crosses in
-    let size : length D.actions + 2 ≡ length c.deref.result.now = sym (ap length c.deref.ensures.value ∙ each ∙ actions_length D (resolved D c.args.development.now.resolved)) in
+    let size : length D.actions + 2 ≡ length c.deref.result.now = sym (ap length c.deref.ensures.value ∙ each ∙ actions_length D (passed_is_resolved D c.args.development.now.resolved)) in
     let within = c.requires.asked.few in
     let some : s.to - s.from ≤ length c.args.asserted.conjuncts.now = omega (arith, within) in
     let less = mul-le-mul_right (length D.actions + 2) some in

@@ -11,7 +11,7 @@ use Rattle.lc_action.specs.ActionView.{action_of}
 use Rattle.lc_outline.specs.Development.{invariant_of}
 use Rattle.lc_outline.specs.DevelopmentView.{development_view}
 use Rattle.lc_outline.specs.Resolved.{IsBelow}
-use Rattle.lc_outline.proofs.Resolving.{resolved}
+use Rattle.lc_outline.proofs.Resolving.{passed_is_resolved}
 use Rattle.lc_cond.specs.Adding.{HasFormulas}
 use Rattle.lc_cond.specs.Crossings.{code_variable_limit, code_variables}
 use Rattle.lc_cond.proofs.Adding.{formulas_are, formulas_later, terms_later, columns_listed, no_formulas}
@@ -44,7 +44,7 @@ returns-clause-invariant c =
     let variables = terms_later t0 t1 g.variables.now code_variables c.requires.variables kept in
     let formulas = formulas_later t0 t1 g.invariant.now fs (formulas_are t0 g.invariant.now c.requires.invariant.are) kept in
     let D = development_view c.args.development.now in
-    let below = subst (Every (IsBelow code_variable_limit)) (sym c.requires.invariant.trees) (below_more 1 code_variable_limit (invariant_of D) (omega arith) (resolved D c.args.development.now.resolved).invariant) in
+    let below = subst (Every (IsBelow code_variable_limit)) (sym c.requires.invariant.trees) (below_more 1 code_variable_limit (invariant_of D) (omega arith) (passed_is_resolved D c.args.development.now.resolved).invariant) in
     IfOk-weaker c.told_in.result _ _ (λ p tells. subst (HasFormulas t2 p.0.items) (told_own code_variable_limit σ fs below) (tells σ code_variables fs columns variables formulas)) c.told_in.ensures.invariant
 
 pub returns-clause-asserts : goal.returns-clause-asserts

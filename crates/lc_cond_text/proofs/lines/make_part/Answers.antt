@@ -5,7 +5,7 @@ use Rattle.lc_cond.specs.Stream.{IsNextPart, IsPart, IsEnd}
 use Rattle.lc_cond.specs.declared.condition.Condition.{Condition}
 use Rattle.lc_outline.specs.DevelopmentView.{development_view}
 use Rattle.lc_cond_text.specs.ConditionText.{spelled}
-use Rattle.lc_cond_text.proofs.LeftOver.{part_made, counted}
+use Rattle.lc_cond_text.proofs.LeftOver.{part_made, only_count_left}
 use Rattle.lc_cond_text.proofs.Recalled.{recalls_kept}
 use Rattle.lc_cond_text.proofs.lines.make_part.Goals as goal
 
@@ -23,4 +23,4 @@ returns-in_ok-push_total-in-None c =
     let d = development_view c.args.development.now in
     let l = c.args.left.now in
     let is : IsEnd d l.stream c.next_part.new.self = subst (λ (o : Option (Vec Condition Global)). IsNextPart d c.next_part.new.terms l.stream c.next_part.new.self o) c.in-None.is c.in_ok-part.ensures.next in
-    counted d l.stream c.next_part.new.self l.terms l.texts l.most l.part l.written l.number c.args.piece.now.items c.push_total.new.piece.items c.requires.none is c.in_ok-push_total-in-None.ensures
+    only_count_left d l.stream c.next_part.new.self l.terms l.texts l.most l.part l.written l.number c.args.piece.now.items c.push_total.new.piece.items c.requires.none is c.in_ok-push_total-in-None.ensures

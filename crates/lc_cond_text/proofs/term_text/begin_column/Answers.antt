@@ -8,7 +8,7 @@ use Rattle.lc_outline.specs.DevelopmentView.{development_view}
 use Rattle.lc_cond_text.specs.declared.term_text.Waiting.TheVariants.{Column}
 use Rattle.lc_cond_text.specs.ConditionText.{spelled}
 use Rattle.lc_cond_text.specs.Waiting.{GoesOn}
-use Rattle.lc_cond_text.proofs.Waiting.{last_waits, column_begun, written, one_more}
+use Rattle.lc_cond_text.proofs.Waiting.{last_waits, column_begun, written_goes_on, one_more}
 use Rattle.lc_cond_text.proofs.term_text.begin_column.Goals as goal
 
 pub stores-init : goal.stores-init
@@ -30,7 +30,7 @@ returns-in-Base c d =
     let are = (last_waits ts (ws ++ Column below ∷ []) ws (Column below) refl (c.stores.invariant 0).waits).0 in
     on_ok_weaker c.push_text.result
     (λ e. one_more by d ts _ _ (ws ++ Column below ∷ []) ws ws (Column below) _ mid new (c.stores.invariant d) refl
-    (written by d ts mid ws text new are (e ∙ ap (λ l. mid ++ l) (c.column_name.ensures ∙ ap (spelled_column by d) (sym tree)))))
+    (written_goes_on by d ts mid ws text new are (e ∙ ap (λ l. mid ++ l) (c.column_name.ensures ∙ ap (spelled_column by d) (sym tree)))))
     c.push_text.ensures
 
 pub returns-in-Affine : goal.returns-in-Affine
@@ -49,7 +49,7 @@ returns-in-Affine c d =
     let same = ap₂ (λ m n. mid ++ (codes "(affine " ++ signed_decimal m ++ spaced (signed_decimal n) ++ codes ")")) slope start in
     on_ok_weaker c.push_affine.result
     (λ e. one_more by d ts _ _ (ws ++ Column below ∷ []) ws ws (Column below) _ mid new (c.stores.invariant d) refl
-    (written by d ts mid ws text new are (e ∙ same ∙ ap (λ t. mid ++ spelled_column by d t) (sym tree))))
+    (written_goes_on by d ts mid ws text new are (e ∙ same ∙ ap (λ t. mid ++ spelled_column by d t) (sym tree))))
     c.push_affine.ensures
 
 pub stores-preserved : goal.stores-preserved

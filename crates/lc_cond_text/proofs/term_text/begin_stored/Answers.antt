@@ -6,7 +6,7 @@ use Rattle.lc_text.specs.Spelled.{spaced, spelled_term}
 use Rattle.lc_cond_text.specs.declared.term_text.Waiting.TheVariants.{Term, Spaced, End}
 use Rattle.lc_cond_text.specs.ConditionText.{spelled}
 use Rattle.lc_cond_text.specs.Waiting.{stored_text}
-use Rattle.lc_cond_text.proofs.Waiting.{goes_on, written}
+use Rattle.lc_cond_text.proofs.Waiting.{goes_on, written_goes_on}
 use Rattle.lc_cond_text.proofs.term_text.begin_stored.Goals as goal
 
 both : (w a b e : List ℕ) → w ++ ((([] ++ a) ++ b) ++ e) ≡ ((w ++ a) ++ b) ++ e
@@ -63,6 +63,6 @@ returns c d =
     let index = c.in_ok-push_simple.ensures.written d first ∙ ap (λ l. l ++ text c.args.index) c.in_ok-push_space.ensures in
     let value = c.in_ok-push_simple-2.ensures.written d last ∙ ap (λ l. l ++ text c.args.value) (c.in_ok-push_space-2.ensures ∙ ap (λ l. l ++ codes " ") index) in
     on_ok_weaker c.push_end.result
-    (λ e. written by n ts out c.args.waiting.now.items (stored_text by n ts c.args.index c.args.value) new c.requires.waiting
+    (λ e. written_goes_on by n ts out c.args.waiting.now.items (stored_text by n ts c.args.index c.args.value) new c.requires.waiting
     (e ∙ ap (λ l. l ++ codes ")") value ∙ ended out (codes " ") (text c.args.index) (text c.args.value) (codes ")")))
     c.push_end.ensures

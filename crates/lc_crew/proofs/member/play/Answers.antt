@@ -1,7 +1,7 @@
 use Rattle.std.proofs.Common.{None, Some, ◌∙◌}
 use Rattle.lc_run.specs.Labels.{is_unfinished}
 use Rattle.lc_run.specs.Locked.{client_in, labels_made}
-use Rattle.lc_crew.proofs.Scripts.{all-played, gone-on, halted}
+use Rattle.lc_crew.proofs.Scripts.{all-played, gone-on, halted_step_played}
 use Rattle.lc_crew.proofs.Unfinished.{none-fit}
 use Rattle.lc_crew.proofs.member.play.Goals as goal
 
@@ -11,7 +11,7 @@ returns-in-Some-clause-played g c =
     let now = labels_made c.loop-calls.seat in
     let after = labels_made c.make_calls.new.seat in
     so.2 (Some c.in-Some.halt) after
-    (halted c.deref-calls-items.result.now c.args.script.now.calls.items c.loop-calls.calls-index c.calls-item.result c.in-Some.halt c.in_ok-halt.field-0 (client_in c.args.seat.now) (client_in c.loop-calls.seat) now after
+    (halted_step_played c.deref-calls-items.result.now c.args.script.now.calls.items c.loop-calls.calls-index c.calls-item.result c.in-Some.halt c.in_ok-halt.field-0 (client_in c.args.seat.now) (client_in c.loop-calls.seat) now after
     c.deref-calls-items.ensures.value c.loop-calls-test.true c.calls-item.is c.in-Some.is so.0 c.in_ok-halt.ensures.made)
 
 pub loop-calls-preserved : goal.loop-calls-preserved

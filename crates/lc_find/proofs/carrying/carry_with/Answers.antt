@@ -9,7 +9,7 @@ use Rattle.lc_check.specs.VerdictView.{development_in}
 use Rattle.lc_hints.specs.HintView.{proofs_in}
 use Rattle.lc_outline.specs.DevelopmentView.{development_view}
 use Rattle.lc_find.proofs.CarriedHold.{gets-carried}
-use Rattle.lc_find.proofs.Ending.{unfound}
+use Rattle.lc_find.proofs.Ending.{unfound_finds_fault}
 use Rattle.lc_find.specs.Found.{Finds, TakesFirst}
 use Rattle.lc_find.specs.GetsCarried.{GetsCarried}
 use Rattle.lc_find.specs.declared.fault.FindFault.TheVariants.{OutOfMemory}
@@ -20,7 +20,7 @@ returns-in_err-carried-clause-finds g c =
     let E = development_view c.args.development.now in
     let hs = carried (development_in c.args.accepted.now) (entries_in c.args.certificate.now) E ++ proofs_in c.args.hints.now in
     let p = err_from_is_err_and c.from_residual.result c.from_residual.ensures.1 in
-    subst (Finds E hs c.args.budget) (sym (p.1 ∙ ap Err p.2)) (unfound E hs c.args.budget OutOfMemory tt)
+    subst (Finds E hs c.args.budget) (sym (p.1 ∙ ap Err p.2)) (unfound_finds_fault E hs c.args.budget OutOfMemory tt)
 
 pub find_beside-requires : goal.find_beside-requires
 find_beside-requires g c =

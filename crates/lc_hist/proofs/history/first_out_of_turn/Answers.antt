@@ -3,7 +3,7 @@ use Rattle.std.proofs.lemmas.List.{length-map}
 use Rattle.lc_base.specs.Limits.{client_limit}
 use Rattle.lc_hist.specs.InCall.{in_call}
 use Rattle.lc_hist.specs.View.{events_of, event_of}
-use Rattle.lc_hist.proofs.Turns.{busy_next, differ, agree, is_in_turn, is_out_of_turn, front_next, first_out_of_turn, event_at, well_formed}
+use Rattle.lc_hist.proofs.Turns.{busy_next, beq_false_not, beq_true_same, is_in_turn, is_out_of_turn, front_next, first_out_of_turn, event_at, well_formed}
 use Rattle.lc_hist.specs.WellFormed.{client_of, begins}
 use Rattle.lc_hist.proofs.history.first_out_of_turn.Goals as goal
 use Rattle.lc_hist.proofs.history.first_out_of_turn.Goals.{then-client-gt-CLIENT_LIMIT-via-then-client-gt-CLIENT_LIMIT, then-client-gt-CLIENT_LIMIT-via-else-client-gt-CLIENT_LIMIT+then-contains-begins}
@@ -20,7 +20,7 @@ returns-then-client-gt-CLIENT_LIMIT c =
       | then-client-gt-CLIENT_LIMIT-via-else-client-gt-CLIENT_LIMIT+then-contains-begins w ↦
           first_out_of_turn (events_of c.args.events.now) c.loop-place.place event front at
           (λ turn. is_out_of_turn _ event (in_call c.loop-place.busy) c.loop-place.invariant.busy
-          (ap (in_call c.loop-place.busy) (sym c.client-client.ensures) ∙ sym w.contains.ensures ∙ agree _ _ w.if-contains-begins.true ∙ c.begins-begins.ensures) turn)
+          (ap (in_call c.loop-place.busy) (sym c.client-client.ensures) ∙ sym w.contains.ensures ∙ beq_true_same _ _ w.if-contains-begins.true ∙ c.begins-begins.ensures) turn)
     ]
 
 pub loop-place-preserved : goal.loop-place-preserved
@@ -31,7 +31,7 @@ loop-place-preserved c =
     let at = event_at c.args.events.now place c.index-events-place.result (omega arith) c.index-events-place.is in
     let busy = in_call c.loop-place.busy in
     let is : busy (client_of event) ≡ not (begins event) =
-    ap busy (sym c.client-client.ensures) ∙ sym c.contains.ensures ∙ differ _ _ c.if-contains-begins.false ∙ ap not c.begins-begins.ensures in
+    ap busy (sym c.client-client.ensures) ∙ sym c.contains.ensures ∙ beq_false_not _ _ c.if-contains-begins.false ∙ ap not c.begins-begins.ensures in
     let le : client_of event ≤ client_limit = omega (arith, c.client-client.ensures) in
     record {
       in_turn = front_next history place event c.loop-place.invariant.in_turn at (is_in_turn (take place history) event busy c.loop-place.invariant.busy le is);

@@ -6,7 +6,7 @@ use Rattle.lc_hist.specs.JsonValues.{event_in}
 use Rattle.lc_hist.specs.View.{event_of, events_of}
 use Rattle.lc_hist.specs.WellFormed.{client_of}
 use Rattle.lc_hist.proofs.JsonAnswers.{refused_weaker, wrong_event, no_form, events_are_formed}
-use Rattle.lc_hist.proofs.JsonEvents.{is_no_next, is_next, next_event, open_next, number_cond, follows, within_limit}
+use Rattle.lc_hist.proofs.JsonEvents.{is_no_next, is_next, next_event, open_next, number_cond, may_follow_busy, within_limit}
 use Rattle.lc_hist.proofs.JsonLists.{one_read}
 use Rattle.lc_hist.proofs.json_reading.read_events.Goals as goal
 
@@ -59,7 +59,7 @@ values-preserved c =
     let next = is_next operations events table d e l.invariant.2 form (within_limit operations d e form) may in (
       ds ++ d ∷ [],
       rw pushed (next_event operations [] ds events d e l.invariant.1 next),
-      rw pushed (open_next events table (λ k. number_of (open_of c.set.new.self k)) e l.invariant.2 (follows operations (table (client_of e)) e may)
+      rw pushed (open_next events table (λ k. number_of (open_of c.set.new.self k)) e l.invariant.2 (may_follow_busy operations (table (client_of e)) e may)
           (λ k. ap number_of (c.in_ok-set.ensures k) ∙ number_cond (k == c.client-client.result) c.opened.result (open_of l.calls k)
           ∙ ap (λ z. cond (k == z) (number_of c.opened.result) (table k)) c.client-client.ensures ∙ ap (λ z. cond (k == client_of e) z (table k)) c.opened.ensures)),
       one_read ds d (values_at c.next.new.self) (values_at l.values) (values_at c.args.values) c.in-Some.ensures.value l.invariant.3,

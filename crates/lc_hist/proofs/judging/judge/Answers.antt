@@ -5,7 +5,7 @@ use Rattle.lc_hist.specs.Histories.{events_in}
 use Rattle.lc_hist.specs.Judged.{PassesBefore, FitsAlong}
 use Rattle.lc_hist.specs.Spans.{AreClients}
 use Rattle.lc_hist.specs.View.{entry_of, entries_in, events_of}
-use Rattle.lc_hist.proofs.Replays.{judged_so, seam, all_pass, some_missing}
+use Rattle.lc_hist.proofs.Replays.{judged_so, take_of_joined, all_pass, some_missing}
 use Rattle.lc_hist.proofs.judging.judge.Goals as goal
 
 pub returns-in_err-replay : goal.returns-in_err-replay
@@ -29,7 +29,7 @@ returns-then-not-are_complete g c =
     let known = subst (λ z. PassesBefore (o.step x) (o.start x) z order (length order) × FitsAlong (o.step x) (o.Fits x) (o.start x) order) same c.in_ok-replay.ensures in
     let made : AreClients (events_of c.events-events.result.now) c.deref_mut.result.now = rw c.deref_mut.ensures.value c.in_ok-clients.ensures.clients in
     let kept : AreClients h c.spans_of.new.clients = subst (λ z. AreClients z c.spans_of.new.clients) same (c.in_ok-spans.ensures.clients (events_of c.events-events.result.now) made) in
-    let back : c.deref-4.result.now ≡ c.spans_of.new.clients = c.deref-4.ensures.value ∙ seam c.in_ok-clients.clients.len c.spans_of.new.clients (drop (length c.spans_of.new.clients) c.in_ok-clients.clients.items) (omega (arith, c.spans_of.auto.clients, c.deref_mut.ensures.len)) in
+    let back : c.deref-4.result.now ≡ c.spans_of.new.clients = c.deref-4.ensures.value ∙ take_of_joined c.in_ok-clients.clients.len c.spans_of.new.clients (drop (length c.spans_of.new.clients) c.in_ok-clients.clients.items) (omega (arith, c.spans_of.auto.clients, c.deref_mut.ensures.len)) in
     some_missing (o.step x) (o.Fits x) (o.start x) h order c.spans_of.new.clients (length c.args.order.now) c.args.history.now.well_formed kept c.in_ok-spans.ensures.seen known
     (λ all. let yes = c.are_complete.ensures.1 (subst (λ z. All (λ client. length client.returns.items ≤ client.entries) z) (sym back) all) in let no = c.if-not-are_complete.true in cc (yes, no))
     (sym (length-map c.args.order.now (entry_of o.call_meant o.choice_meant o.numbers)))
@@ -44,6 +44,6 @@ returns g c =
     let known = subst (λ z. PassesBefore (o.step x) (o.start x) z order (length order) × FitsAlong (o.step x) (o.Fits x) (o.start x) order) same c.in_ok-replay.ensures in
     let made : AreClients (events_of c.events-events.result.now) c.deref_mut.result.now = rw c.deref_mut.ensures.value c.in_ok-clients.ensures.clients in
     let kept : AreClients h c.spans_of.new.clients = subst (λ z. AreClients z c.spans_of.new.clients) same (c.in_ok-spans.ensures.clients (events_of c.events-events.result.now) made) in
-    let back : c.deref-4.result.now ≡ c.spans_of.new.clients = c.deref-4.ensures.value ∙ seam c.in_ok-clients.clients.len c.spans_of.new.clients (drop (length c.spans_of.new.clients) c.in_ok-clients.clients.items) (omega (arith, c.spans_of.auto.clients, c.deref_mut.ensures.len)) in
+    let back : c.deref-4.result.now ≡ c.spans_of.new.clients = c.deref-4.ensures.value ∙ take_of_joined c.in_ok-clients.clients.len c.spans_of.new.clients (drop (length c.spans_of.new.clients) c.in_ok-clients.clients.items) (omega (arith, c.spans_of.auto.clients, c.deref_mut.ensures.len)) in
     all_pass (o.step x) (o.Fits x) (o.start x) h order c.spans_of.new.clients c.args.history.now.well_formed kept c.in_ok-spans.ensures.seen known
     (subst (λ z. All (λ client. length client.returns.items ≤ client.entries) z) back (c.are_complete.ensures.0 c.if-not-are_complete.false))

@@ -7,7 +7,7 @@ use Rattle.lc_hist.specs.Spans.{span_of}
 use Rattle.lc_hist.specs.Tests.{named}
 use Rattle.lc_hist.specs.View.{event_of, events_of, entry_of, entries_in}
 use Rattle.lc_hist.proofs.Tables.{entry_at}
-use Rattle.lc_hist.proofs.Replays.{passing, failing, failing_fits, faulting, handed_on, within_history}
+use Rattle.lc_hist.proofs.Replays.{checked_entry_passes, checked_entry_fails, failing_fits, checked_entry_faults, handed_on, within_history}
 use Rattle.lc_hist.proofs.judging.replay.Goals as goal
 
 pub failure_of-requires-clause-within : goal.failure_of-requires-clause-within
@@ -37,7 +37,7 @@ returns-in_err-failure g c =
     let told = slice_get-get_or c.args.preceded.now p false (omega (arith, within, c.requires.flags)) in
     let cause = c.in_err-failure.field-0.0 in
     handed_on (o.step x) (o.Fits x) (o.start x) h order c.from_residual-in_err-failure.result (judge_fault cause) c.from_residual-in_err-failure.ensures.1
-    (faulting (o.step x) (o.Fits x) (o.start x) h order c.args.spans.now c.args.preceded.now p e (get_or c.args.spans.now p None) (get_or c.args.preceded.now p false)
+    (checked_entry_faults (o.step x) (o.Fits x) (o.start x) h order c.args.spans.now c.args.preceded.now p e (get_or c.args.spans.now p None) (get_or c.args.preceded.now p false)
     (o.meaning c.loop-place.state) (o.meaning c.failure_of.new.state) cause c.requires c.loop-place.invariant.passed c.loop-place.invariant.leads c.loop-place.invariant.fits at is told c.in_err-failure.ensures.checked)
 
 pub returns-in-Some : goal.returns-in-Some
@@ -54,7 +54,7 @@ returns-in-Some g c =
     let told = slice_get-get_or c.args.preceded.now p false (omega (arith, within, c.requires.flags)) in
     let checked = subst (λ f. IsChecked (o.step x) (o.Fits x) h (get_or c.args.spans.now p None) (get_or c.args.preceded.now p false) e (o.meaning c.loop-place.state) (o.meaning c.failure_of.new.state) (Ok f))
     c.in-Some.is c.in_ok-failure.ensures.checked in (
-      failing (o.step x) (o.Fits x) (o.start x) h order c.args.spans.now c.args.preceded.now p e (get_or c.args.spans.now p None) (get_or c.args.preceded.now p false)
+      checked_entry_fails (o.step x) (o.Fits x) (o.start x) h order c.args.spans.now c.args.preceded.now p e (get_or c.args.spans.now p None) (get_or c.args.preceded.now p false)
           (o.meaning c.loop-place.state) (o.meaning c.failure_of.new.state) c.in-Some.reason c.requires c.loop-place.invariant.passed c.loop-place.invariant.leads at is told checked,
       failing_fits (o.step x) (o.Fits x) (o.start x) h order p e (get_or c.args.spans.now p None) (get_or c.args.preceded.now p false)
           (o.meaning c.loop-place.state) (o.meaning c.failure_of.new.state) c.in-Some.reason c.loop-place.invariant.leads c.loop-place.invariant.fits at checked,
@@ -72,7 +72,7 @@ loop-place-preserved g c =
     let within : p < length c.args.spans.now = omega (arith, c.requires.places, length-map c.args.order.now (entry_of o.call_meant o.choice_meant o.numbers)) in
     let is = slice_get-get_or c.args.spans.now p None within in
     let told = slice_get-get_or c.args.preceded.now p false (omega (arith, within, c.requires.flags)) in
-    let next = passing (o.step x) (o.Fits x) (o.start x) h order c.args.spans.now c.args.preceded.now p e (get_or c.args.spans.now p None) (get_or c.args.preceded.now p false)
+    let next = checked_entry_passes (o.step x) (o.Fits x) (o.start x) h order c.args.spans.now c.args.preceded.now p e (get_or c.args.spans.now p None) (get_or c.args.preceded.now p false)
     (o.meaning c.loop-place.state) (o.meaning c.failure_of.new.state) c.requires c.loop-place.invariant.passed c.loop-place.invariant.leads c.loop-place.invariant.fits at is told
     (subst (λ f. IsChecked (o.step x) (o.Fits x) h (get_or c.args.spans.now p None) (get_or c.args.preceded.now p false) e (o.meaning c.loop-place.state) (o.meaning c.failure_of.new.state) (Ok f))
     c.in_default.is c.in_ok-failure.ensures.checked) in

@@ -8,7 +8,7 @@ use Rattle.lc_hist.specs.JsonTokens.{Begins}
 use Rattle.lc_hist.specs.View.{event_of, events_of}
 use Rattle.lc_hist.specs.WellFormed.{client_of}
 use Rattle.lc_hist.proofs.JsonAnswers.{events_are_formed}
-use Rattle.lc_hist.proofs.JsonEvents.{AreOpen, is_next, next_event, open_next, number_cond, follows, within_limit}
+use Rattle.lc_hist.proofs.JsonEvents.{AreOpen, is_next, next_event, open_next, number_cond, may_follow_busy, within_limit}
 use Rattle.lc_hist.proofs.JsonTokens.{row_begins, row_next, row_ends, begins-shorter}
 use Rattle.lc_hist.proofs.token_rows.next_history.Goals as goal
 
@@ -39,7 +39,7 @@ events-preserved c =
     let next = is_next operations events table d e l.invariant.2 form (within_limit operations d e form) may in (
       ds ++ d ∷ [],
       rw pushed (next_event operations [] ds events d e l.invariant.1 next),
-      rw pushed (open_next events table (λ k. number_of (open_of c.set.new.self k)) e l.invariant.2 (follows operations (table (client_of e)) e may)
+      rw pushed (open_next events table (λ k. number_of (open_of c.set.new.self k)) e l.invariant.2 (may_follow_busy operations (table (client_of e)) e may)
           (λ k. ap number_of (c.in_ok-set.ensures k) ∙ number_cond (k == c.client-client.result) c.opened.result (open_of l.calls k)
           ∙ ap (λ z. cond (k == z) (number_of c.opened.result) (table k)) c.client-client.ensures ∙ ap (λ z. cond (k == client_of e) z (table k)) c.opened.ensures)),
       row_next 3 c.begins_array.new.self ds l.reader d rest l.invariant.3 begins,

@@ -6,7 +6,7 @@ use Rattle.lc_kernel.specs.Derivation.{Derives}
 use Rattle.lc_kernel.specs.View.{proof_of}
 use Rattle.lc_kernel.proofs.Checked.{proves_fault}
 use Rattle.lc_kernel.proofs.Numbered.{given_and_one}
-use Rattle.lc_kernel.proofs.Sound.{valid}
+use Rattle.lc_kernel.proofs.Sound.{derived_is_valid}
 use Rattle.lc_kernel.proofs.proving.prove.Goals as goal
 
 pub check-requires-clause-numbers : goal.check-requires-clause-numbers
@@ -48,4 +48,4 @@ returns-clause-valid c =
     let one : c.push.new.self.items ≡ c.in_ok-negated.negated ∷ [] = search rules in
     let behind = given_and_one ts c.not.new.self g.hypotheses c.as_slice-given.result.now c.push.new.self.items c.in_ok-negated.negated (Not (formula_in ts g.goal)) c.as_slice-given.ensures one
     c.requires.numbers.0 c.in_ok-negated.ensures.kept c.in_ok-negated.ensures.id in
-    valid g.vars (formulas_in ts g.hypotheses) (formula_in ts g.goal) p (subst (λ G. Derives g.vars G p) behind.1 c.in_ok-check.ensures.checks.1) c.requires.hypotheses c.requires.goal
+    derived_is_valid g.vars (formulas_in ts g.hypotheses) (formula_in ts g.goal) p (subst (λ G. Derives g.vars G p) behind.1 c.in_ok-check.ensures.checks.1) c.requires.hypotheses c.requires.goal

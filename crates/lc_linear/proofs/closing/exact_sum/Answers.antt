@@ -8,7 +8,7 @@ use Rattle.lc_linear.specs.Closing.{combined, entries_in, gap}
 use Rattle.lc_linear.specs.LinForm.{numbers}
 use Rattle.lc_linear.proofs.Faults.{passed_on, large_form}
 use Rattle.lc_linear.proofs.Made.{zero_read, turn_kept, turn_has_form, turn_read}
-use Rattle.lc_linear.proofs.Numbers.{widened}
+use Rattle.lc_linear.proofs.Numbers.{widened_number}
 use Rattle.lc_linear.proofs.Sums.{get_or-any, combined-more, HasForm-prefix, turn_gap}
 use Rattle.lc_linear.proofs.Weights.{HasForm-weight}
 use Rattle.lc_linear.proofs.closing.exact_sum.Goals as goal
@@ -39,7 +39,7 @@ returns-in_err-sum c = passed_on _ _ c.from_residual-in_err-sum.result _ c.from_
     let i = c.loop-formula.formula-index in
     let e : FormulaId × ℤ = entry es i in
     let f : FitsSigned w64 e.1 = search rules in
-    let k = widened e.1 c.from.result f c.from.ensures in
+    let k = widened_number e.1 c.from.result f c.from.ensures in
     large_form _ _ _ c.in_err-sum.ensures met
     (turn_kept ts (numbers c.loop-formula.sum) (numbers c.in_ok-gap_form.field-0) _ _ _ _ _ (more ts es i c.loop-formula-test.true) k c.loop-formula.invariant.1 c.in_ok-gap_form.ensures.1 (HasForm-prefix ts es (i + 1) fits)))
 
@@ -51,7 +51,7 @@ loop-formula-preserved c =
     let e : FormulaId × ℤ = entry es i in
     let f : FitsSigned w64 e.1 = search rules in
     let is = more ts es i c.loop-formula-test.true in
-    let k = widened e.1 c.from.result f c.from.ensures in
+    let k = widened_number e.1 c.from.result f c.from.ensures in
     let g = c.in_ok-gap_form.ensures in (
       turn_has_form ts (numbers c.loop-formula.sum) (numbers c.in_ok-gap_form.field-0) _ _ _ _ _ is k c.loop-formula.invariant.1 g.1 c.loop-formula.invariant.0 g.0 c.in_ok-sum.ensures.0,
       turn_read ts (numbers c.loop-formula.sum) (numbers c.in_ok-gap_form.field-0) _ _ _ _ _ is k c.loop-formula.invariant.1 g.1 c.in_ok-sum.sum c.in_ok-sum.ensures.1,

@@ -7,7 +7,7 @@ use Rattle.lc_linear.specs.Form.{form_of}
 use Rattle.lc_linear.specs.LinForm.{numbers}
 use Rattle.lc_linear.proofs.InTables.{Reads-same}
 use Rattle.lc_linear.proofs.Made.{zero_read}
-use Rattle.lc_linear.proofs.Numbers.{widened}
+use Rattle.lc_linear.proofs.Numbers.{widened_number}
 use Rattle.lc_linear.proofs.Sums.{get_or-any, combined-more, turn_sum}
 use Rattle.lc_linear.proofs.closing.quick_sum.Goals as goal
 
@@ -24,4 +24,4 @@ loop-formula-preserved c =
     let whole = combined (entries_in ts (take (c.loop-formula.formula-index + 1) c.args.entries.now)) in
     let g = gap (formula_in ts e.0) in
     Reads-same ts (numbers c.add_gap.new.form) (numbers c.add_gap.new.form) _ (form_of whole) (λ p. refl)
-    (turn_sum whole so_far g e.1 _ more (widened e.1 c.from.result f c.from.ensures) (form_of so_far) (form_of g) (λ p. refl) (λ p. refl)) (c.in_ok-add_gap.ensures (form_of so_far) c.loop-formula.invariant)
+    (turn_sum whole so_far g e.1 _ more (widened_number e.1 c.from.result f c.from.ensures) (form_of so_far) (form_of g) (λ p. refl) (λ p. refl)) (c.in_ok-add_gap.ensures (form_of so_far) c.loop-formula.invariant)

@@ -8,7 +8,7 @@ use Rattle.lc_linear.specs.Form.{form_of, HasForm}
 use Rattle.lc_linear.specs.LinForm.{numbers}
 use Rattle.lc_linear.proofs.Faults.{passed_on}
 use Rattle.lc_linear.proofs.Made.{number_given, atom_given}
-use Rattle.lc_linear.proofs.Numbers.{widened}
+use Rattle.lc_linear.proofs.Numbers.{widened_number}
 use Rattle.lc_linear.proofs.Parts.{IsAtom, IsAtom-Variable, IsAtom-Bound, IsAtom-Read}
 use Rattle.lc_linear.proofs.Weights.{HasForm-weight}
 use Rattle.lc_linear.proofs.exact.leaf_form.Goals as goal
@@ -18,7 +18,7 @@ pub returns-in_err-add_number-in-Number : goal.returns-in_err-add_number-in-Numb
 returns-in_err-add_number-in-Number c = passed_on _ _ c.from_residual.result _ c.from_residual.ensures.1 (λ met fits.
     let f : FitsSigned w64 c.in-Number.number = search rules in
     let zero : c.zero-form.result.constant ≡ pos 0 = c.zero-form.ensures None in
-    let number = widened c.in-Number.number c.from.result f c.from.ensures in
+    let number = widened_number c.in-Number.number c.from.result f c.from.ensures in
     c.in_err-add_number-in-Number.ensures.large (ap Err met) (omega (arith, ints)))
 
 pub returns-in_ok-add_number-in-Number : goal.returns-in_ok-add_number-in-Number
@@ -26,7 +26,7 @@ returns-in_ok-add_number-in-Number c =
     let ts = c.args.terms.now in
     let t = term_in ts c.args.leaf in
     let f : FitsSigned w64 c.in-Number.number = search rules in
-    let number = widened c.in-Number.number c.from.result f c.from.ensures in
+    let number = widened_number c.in-Number.number c.from.result f c.from.ensures in
     let light : unsigned_abs c.in-Number.number < 2 ^ 127 = omega (arith, ints) in
     let is = c.in-Number.ensures.tree in (
       subst HasForm (sym is) (HasForm-weight (S.Number c.in-Number.number) light),

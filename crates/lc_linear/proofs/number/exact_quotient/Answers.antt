@@ -3,7 +3,7 @@ use Rattle.std.specs.Prelude.{pos, int_div, int_rem}
 use Rattle.std.specs.Int.{w128}
 use Rattle.std.proofs.lemmas.Bool.{false≢true}
 use Rattle.lc_linear.proofs.Division.{exact, no_remainder, remainder_bits}
-use Rattle.lc_linear.proofs.Numbers.{kept}
+use Rattle.lc_linear.proofs.Numbers.{wide_number_kept}
 use Rattle.lc_linear.proofs.number.exact_quotient.Goals as goal
 
 pub returns-then-number-divisor-eq0-clause-found : goal.returns-then-number-divisor-eq0-clause-found
@@ -16,5 +16,5 @@ pub returns-else-number-divisor-eq0-clause-found : goal.returns-else-number-divi
 returns-else-number-divisor-eq0-clause-found c = (
   λ h. absurd (false≢true h),
   λ h. absurd (c.if-number-divisor-eq0.false
-      (ap (of_z w128) (ap₂ int_rem (kept _ c.ranges.number) (kept _ c.ranges.divisor) ∙ no_remainder _ _ c.requires h.0 h.1))),
+      (ap (of_z w128) (ap₂ int_rem (wide_number_kept _ c.ranges.number) (wide_number_kept _ c.ranges.divisor) ∙ no_remainder _ _ c.requires h.0 h.1))),
 )

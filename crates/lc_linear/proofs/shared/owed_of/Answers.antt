@@ -5,7 +5,7 @@ use Rattle.std.proofs.lemmas.List.{take_all}
 use Rattle.lc_table.specs.Tables.{term_in}
 use Rattle.lc_table.specs.declared.node.TermId.{TermId}
 use Rattle.lc_linear.proofs.Loads.{term_at, total_more}
-use Rattle.lc_linear.proofs.Numbers.{kept}
+use Rattle.lc_linear.proofs.Numbers.{wide_number_kept}
 use Rattle.lc_linear.proofs.Owing.{owed_more, owed_nothing}
 use Rattle.lc_linear.proofs.Sums.{get_or-any}
 use Rattle.lc_linear.specs.Form.{form_of}
@@ -25,7 +25,7 @@ loop-term-preserved c = λ p.
     let f : FitsSigned w128 m.1 = search rules in
     let there = get_or-any ms i (record { 0 = 0 }, pos 0) m c.loop-term-test.true in
     owed_more ts (numbers c.loop-term.owed) (numbers c.add_atom.new.self) m.0 (term_at ts ms i m c.requires c.loop-term-test.true there) (to_z w128 (of_z w128 m.1)) c.in_ok-add_atom.ensures.ok p
-    ∙ ap₂ (λ x k. x +ℤ k *ℤ form_of (term_in ts m.0) p) (c.loop-term.invariant p) (kept m.1 f) ∙ sym (total_more ts ms i m c.loop-term-test.true there p)
+    ∙ ap₂ (λ x k. x +ℤ k *ℤ form_of (term_in ts m.0) p) (c.loop-term.invariant p) (wide_number_kept m.1 f) ∙ sym (total_more ts ms i m c.loop-term-test.true there p)
 
 pub returns : goal.returns
 returns c = λ p.

@@ -4,7 +4,7 @@ use Rattle.std.specs.Int.{w128}
 use Rattle.lc_table.specs.Nodes.{term_of_node}
 use Rattle.lc_table.specs.Tables.{parts, term_in, column_in}
 use Rattle.lc_linear.proofs.Made.{adds_number, adds_atom}
-use Rattle.lc_linear.proofs.Numbers.{widened, product_kept}
+use Rattle.lc_linear.proofs.Numbers.{widened_number, product_kept}
 use Rattle.lc_linear.proofs.Owing.{alone_settled, difference_owed, product_owed, sum_owed}
 use Rattle.lc_linear.proofs.Parts.{IsAtom, IsAtom-Variable, IsAtom-Bound, IsAtom-Read}
 use Rattle.lc_linear.proofs.shared.settle.Goals as goal
@@ -15,7 +15,7 @@ returns-in_ok-add_number-in-Number c =
     let less = c.subtract_atom.new.self in
     let count : ℤ = to_z w128 (of_z w128 c.coefficient-count.result) in
     let f : FitsSigned w64 c.in-Number.number = search rules in
-    let number = widened c.in-Number.number c.from.result f c.from.ensures in
+    let number = widened_number c.in-Number.number c.from.result f c.from.ensures in
     let m = product_kept _ _ c.in_ok-product-in-Number.ensures ∙ ap (λ n. count *ℤ n) number in
     alone_settled ts c.args.form.now c.args.owed.now less less less c.args.node c.requires count c.in_ok-subtract_atom.ensures.ok c.add_number.new.self
     (adds_number ts c.args.form.now c.add_number.new.self (term_in ts c.args.node) count count refl c.in-Number.number _ c.in-Number.ensures.tree m c.in_ok-add_number-in-Number.ensures.ok)
@@ -50,6 +50,6 @@ returns-in_ok-add_atom-in-Multiply c =
     let less = c.subtract_atom.new.self in
     let count : ℤ = to_z w128 (of_z w128 c.coefficient-count.result) in
     let f : FitsSigned w64 c.in-Multiply.factor = search rules in
-    let factor = widened c.in-Multiply.factor c.from-in-Multiply.result f c.from-in-Multiply.ensures in
+    let factor = widened_number c.in-Multiply.factor c.from-in-Multiply.result f c.from-in-Multiply.ensures in
     product_owed c.args.terms.now c.args.form.now c.args.owed.now less less c.add_atom-in-Multiply.new.self c.args.node c.requires count c.in_ok-subtract_atom.ensures.ok c.in-Multiply.factor _
     c.in-Multiply.part c.in-Multiply.ensures.fits c.in-Multiply.ensures.tree (product_kept _ _ c.in_ok-product-in-Multiply.ensures ∙ ap (λ n. count *ℤ n) factor) c.in_ok-add_atom-in-Multiply.ensures.ok

@@ -12,7 +12,7 @@ use Rattle.lc_object.specs.Objects.{object_view}
 use Rattle.lc_object.specs.View.{columns_of, terms_of}
 use Rattle.lc_machine.specs.Step.{numbers, row}
 use Rattle.lc_machine.specs.Fits.{ComparisonFits}
-use Rattle.lc_machine.proofs.Instructions.{keeps, keep_fits, swaps, swap_fits, not_swapped}
+use Rattle.lc_machine.proofs.Instructions.{effect_of_kept_cas, keep_fits, effect_of_swapped_cas, swap_fits, not_swapped}
 use Rattle.lc_machine.proofs.instruction.cas_effect.Goals as goal
 
 pub returns-then-not-branch : goal.returns-then-not-branch
@@ -25,7 +25,7 @@ returns-then-not-branch c =
     simp to_z-of_z at c.in_ok-is_row.ensures in
     let olds : c.deref.result.now ≡ numbers s vs (terms_of c.args.old.now) = search rules in
     let parts = rw c.new.ensures at c.in_ok-moving.ensures in
-    keeps (object_view c.args.object.now) s vs
+    effect_of_kept_cas (object_view c.args.object.now) s vs
     c.args.array.0 (term_of c.args.index.now) (terms_of c.args.old.now) (terms_of c.args.new.now) c.args.labels.then.0 c.args.labels.otherwise.0
     c.in_ok-index.index cs c.deref.result.now c.in_ok-moving.field-0
     c.in_ok-index.ensures.0 c.in_ok-index.ensures.1 c.in_ok-old.ensures.0 olds c.row_columns-columns.ensures.columns compared.0 (sym compared.1 ∙ c.if-not-branch.true) c.requires.may_run.6 parts
@@ -86,7 +86,7 @@ returns c =
     let olds : c.deref.result.now ≡ numbers s vs (terms_of c.args.old.now) = search rules in
     let news : c.deref-2.result.now ≡ numbers s vs (terms_of c.args.new.now) = search rules in
     let writes : writes_view c.row_writes-writes.result.items ≡ cell_writes cs c.in_ok-index.index c.deref-2.result.now = simp to_z-of_z at c.row_writes-writes.ensures in
-    swaps (object_view c.args.object.now) s vs
+    effect_of_swapped_cas (object_view c.args.object.now) s vs
     c.args.array.0 (term_of c.args.index.now) (terms_of c.args.old.now) (terms_of c.args.new.now) c.args.labels.then.0 c.args.labels.otherwise.0
     c.in_ok-index.index cs c.deref.result.now c.deref-2.result.now (writes_view c.row_writes-writes.result.items) c.in_ok-moving-2.field-0
     c.in_ok-index.ensures.0 c.in_ok-index.ensures.1 c.in_ok-old.ensures.0 olds c.row_columns-columns.ensures.columns compared.0 (sym compared.1 ∙ c.if-not-branch.false)

@@ -9,7 +9,7 @@ use Rattle.lc_machine.specs.Effects.{IsEffect}
 use Rattle.lc_machine.specs.MayRun.{MayRun, variables_at}
 use Rattle.lc_machine.specs.View.{variables_of}
 use Rattle.lc_machine.proofs.ArrayColumns.{viewed_at}
-use Rattle.lc_machine.proofs.Promised.{may_run, placed}
+use Rattle.lc_machine.proofs.Promised.{may_run, point_with_variables}
 use Rattle.lc_machine.proofs.instruction.effect.Goals as goal
 
 pub effect_of-requires-clause-may_run : goal.effect_of-requires-clause-may_run
@@ -20,7 +20,7 @@ effect_of-requires-clause-may_run c =
     let point = c.index-point.result.now in
     let shown = c.parts.ensures.shown in
     let place = subst (λ (o : S.Object). variables_at o p ≡ Some n) (sym shown) c.requires.place in
-    let at = viewed_at point_of parts.points.items p point (placed (parts_of parts) p n place) c.index-point.ensures in
+    let at = viewed_at point_of parts.points.items p point (point_with_variables (parts_of parts) p n place) c.index-point.ensures in
     subst (λ o. MayRun o n (point_of point).instruction) shown (may_run (parts_of parts) c.parts.ensures.well_formed p (point_of point) n at place)
 
 pub returns : goal.returns
@@ -31,7 +31,7 @@ returns c =
     let point = c.index-point.result.now in
     let shown = c.parts.ensures.shown in
     let place = subst (λ (o : S.Object). variables_at o p ≡ Some n) (sym shown) c.requires.place in
-    let at = viewed_at point_of parts.points.items p point (placed (parts_of parts) p n place) c.index-point.ensures in
+    let at = viewed_at point_of parts.points.items p point (point_with_variables (parts_of parts) p n place) c.index-point.ensures in
     λ (other : S.Point) there.
     let same = same_Some (point_of point) other (sym at ∙ ap (λ (o : S.Object). slice_get o.points p) shown ∙ there) in
     subst (λ (q : S.Point). IsEffect (object_view c.args.object.now) q.instruction (state_of c.args.state.now) (variables_of c.args.place.now) c.effect_of.result)

@@ -10,7 +10,7 @@ use Rattle.lc_object.specs.View.{columns_of, locals_of, terms_of}
 use Rattle.std.proofs.lemmas.List.{length-map}
 use Rattle.lc_base.specs.declared.ids.ColId.{ColId}
 use Rattle.lc_machine.specs.Step.{number, numbers, row, assigned, Goes}
-use Rattle.lc_machine.proofs.Instructions.{adds}
+use Rattle.lc_machine.proofs.Instructions.{effect_of_faa}
 use Rattle.lc_machine.proofs.Sums.{sums_length}
 use Rattle.lc_machine.proofs.instruction.faa_effect.Goals as goal
 
@@ -40,7 +40,7 @@ returns c =
     let found : c.deref.result.now ≡ row s cs c.in_ok-index.index = c.deref.ensures.0 ∙ read.1 in
     let given : c.deref-2.result.now ≡ numbers s vs (terms_of c.args.added.now) = c.deref-2.ensures.0 ∙ c.in_ok-added.ensures.1 in
     let goes = c.in_ok-effect.ensures.2 ∙ ap (λ ns. Goes c.args.next.0 (assigned vs (locals_of c.args.targets.now) ns)) (c.deref-4.ensures.0 ∙ sym c.deref.ensures.0) in
-    adds (object_view c.args.object.now) s vs c.args.array.0 (term_of c.args.index.now) (locals_of c.args.targets.now) (terms_of c.args.added.now) c.args.next.0
+    effect_of_faa (object_view c.args.object.now) s vs c.args.array.0 (term_of c.args.index.now) (locals_of c.args.targets.now) (terms_of c.args.added.now) c.args.next.0
     c.in_ok-index.index cs c.deref.result.now c.deref-2.result.now c.deref-3.result.now (writes_view c.row_writes-writes.result.items)
     (record { edge = c.in_ok-effect.effect.edge; writes = c.row_writes-writes.result; fate = c.in_ok-effect.effect.fate })
     c.in_ok-index.ensures.0 c.in_ok-index.ensures.1 c.in_ok-added.ensures.0 given c.row_columns-columns.ensures.columns read.0 found c.in_ok-sums.ensures.0

@@ -1,5 +1,5 @@
-use Rattle.lc_outline.proofs.Limited.{limited}
+use Rattle.lc_outline.proofs.Limited.{passed_is_limited}
 use Rattle.lc_outline.proofs.laws.developments_are_limited.Goals as goal
 
 pub returns : goal.returns
-returns c = limited
+returns c = passed_is_limited

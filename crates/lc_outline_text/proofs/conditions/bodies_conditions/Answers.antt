@@ -1,6 +1,6 @@
 use Rattle.std.proofs.Common.{arith}
 use Rattle.lc_sexp.specs.Shown.{rest_of}
-use Rattle.lc_outline_text.proofs.Counting.{counted, counted_more, enough, few_counted}
+use Rattle.lc_outline_text.proofs.Counting.{count_without_rest, counted_more, count_cap_reached, few_counted}
 use Rattle.lc_outline_text.proofs.Walks.{no_trees, no_bodies, body_more}
 use Rattle.lc_outline_text.specs.DeclarationsView.{declarations_view}
 use Rattle.lc_outline_text.specs.Views.{totals_view}
@@ -10,7 +10,7 @@ pub returns-in_default-clause-count : goal.returns-in_default-clause-count
 returns-in_default-clause-count c =
     let d = declarations_view c.args.declarations.now in
     let n = totals_view c.args.totals in
-    counted c.loop-body.count _ _ c.loop-body.invariant.few (no_trees d n c.loop-body.operation _ (rest_of c.loop-body.rest) c.in_default.ensures.1) c.loop-body.invariant.conditions
+    count_without_rest c.loop-body.count _ _ c.loop-body.invariant.few (no_trees d n c.loop-body.operation _ (rest_of c.loop-body.rest) c.in_default.ensures.1) c.loop-body.invariant.conditions
 
 pub loop-body-preserved : goal.loop-body-preserved
 loop-body-preserved c =
@@ -31,9 +31,9 @@ pub returns-clause-count : goal.returns-clause-count
 returns-clause-count c =
     let d = declarations_view c.args.declarations.now in
     let n = totals_view c.args.totals in
-    counted c.loop-body.count _ _ c.loop-body.invariant.few
+    count_without_rest c.loop-body.count _ _ c.loop-body.invariant.few
     (no_bodies d n c.loop-body.operation c.loop-body.body-index c.args.declarations.now.declared.bodies.items c.deref-body-items.result.now (rest_of c.loop-body.rest) c.loop-body-test.false c.deref-body-items.ensures.value)
     c.loop-body.invariant.conditions
 
 pub returns-then-count-ge-COUNT_CAP-clause-count : goal.returns-then-count-ge-COUNT_CAP-clause-count
-returns-then-count-ge-COUNT_CAP-clause-count c = enough c.loop-body.count _ _ c.if-count-ge-COUNT_CAP.true c.loop-body.invariant.few c.loop-body.invariant.conditions
+returns-then-count-ge-COUNT_CAP-clause-count c = count_cap_reached c.loop-body.count _ _ c.if-count-ge-COUNT_CAP.true c.loop-body.invariant.few c.loop-body.invariant.conditions

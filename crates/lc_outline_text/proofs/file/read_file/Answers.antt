@@ -1,7 +1,7 @@
 use Rattle.std.proofs.Common.{sym, ap, ap₂, ◌∙◌}
 use Rattle.lc_sexp.specs.Shown.{rest_of}
 use Rattle.lc_object_text.specs.Sections.{sections_at}
-use Rattle.lc_outline_text.proofs.FileReads.{told_first, told_limited, still}
+use Rattle.lc_outline_text.proofs.FileReads.{told_first, told_limited, limited_result_ok}
 use Rattle.lc_outline_text.proofs.LimitsHold.{read_limited}
 use Rattle.lc_outline_text.specs.Declarations.{declarations_in}
 use Rattle.lc_outline_text.specs.Sizes.{condition_count}
@@ -29,7 +29,7 @@ returns c =
     let read = told_limited ts parts c.limited.result c.in_ok-count.count c.read_forms-parts.ensures.read (c.in_ok-count.ensures ∙ ap₂ (λ d s. capped (condition_count d s)) declared sections) c.limited.ensures in
     record {
       read = read;
-      resolved = still _ _ parts c.limited.result c.limited.ensures c.read_forms-parts.ensures.resolved;
+      resolved = limited_result_ok _ _ parts c.limited.result c.limited.ensures c.read_forms-parts.ensures.resolved;
       limited = read_limited ts c.limited.result read;
-      initial = still _ _ parts c.limited.result c.limited.ensures c.read_forms-parts.ensures.initial;
+      initial = limited_result_ok _ _ parts c.limited.result c.limited.ensures c.read_forms-parts.ensures.initial;
     }

@@ -1,8 +1,8 @@
 use Rattle.std.proofs.Common.{false, take, drop, refl, sym, ap, ◌∙◌, arith}
 use Rattle.lc_sexp.specs.Reads.{text_of}
-use Rattle.lc_place.proofs.Texts.{step_text, outside}
+use Rattle.lc_place.proofs.Texts.{step_text, text_outside_comment}
 use Rattle.lc_place.proofs.Tokens.{ends_in, ends_more}
-use Rattle.lc_place.proofs.Items.{counts_one, counts_none, found, more_items, no_more}
+use Rattle.lc_place.proofs.Items.{counts_one, counts_none, numbered_item_begins, more_items, no_more}
 use Rattle.lc_place.proofs.start.item_start.Goals as goal
 
 pub loop-at-preserved-then-not-begins : goal.loop-at-preserved-then-not-begins
@@ -36,7 +36,7 @@ returns-then-left-eq0-clause-begins c =
     let r = c.next_byte-seen.result in
     let next = c.next_byte-seen.new.in_comment in
     let s = step_text c.args.bytes.now c.loop-at.at 0 r c.loop-at.in_comment next c.loop-at-test.true v.text c.next_byte-seen.ensures in
-    found c.args.bytes.now c.loop-at.at r c.args.number c.loop-at.left next c.loop-at.in_word s v.word (sym c.begins_item-begins.ensures ∙ c.if-not-begins.false) v.count c.if-left-eq0.true
+    numbered_item_begins c.args.bytes.now c.loop-at.at r c.args.number c.loop-at.left next c.loop-at.in_word s v.word (sym c.begins_item-begins.ensures ∙ c.if-not-begins.false) v.count c.if-left-eq0.true
 
 pub returns-then-left-eq0-clause-outside : goal.returns-then-left-eq0-clause-outside
 returns-then-left-eq0-clause-outside c =
@@ -44,8 +44,8 @@ returns-then-left-eq0-clause-outside c =
     let r = c.next_byte-seen.result in
     let next = c.next_byte-seen.new.in_comment in
     let s = step_text c.args.bytes.now c.loop-at.at 0 r c.loop-at.in_comment next c.loop-at-test.true v.text c.next_byte-seen.ensures in
-    let b = found c.args.bytes.now c.loop-at.at r c.args.number c.loop-at.left next c.loop-at.in_word s v.word (sym c.begins_item-begins.ensures ∙ c.if-not-begins.false) v.count c.if-left-eq0.true in
-    outside c.loop-at.in_comment (drop c.loop-at.at (text_of c.args.bytes.now)) (drop c.loop-at.at c.args.bytes.now) v.text b.begins
+    let b = numbered_item_begins c.args.bytes.now c.loop-at.at r c.args.number c.loop-at.left next c.loop-at.in_word s v.word (sym c.begins_item-begins.ensures ∙ c.if-not-begins.false) v.count c.if-left-eq0.true in
+    text_outside_comment c.loop-at.in_comment (drop c.loop-at.at (text_of c.args.bytes.now)) (drop c.loop-at.at c.args.bytes.now) v.text b.begins
 
 pub returns-then-left-eq0-clause-none : goal.returns-then-left-eq0-clause-none
 returns-then-left-eq0-clause-none c =
@@ -53,7 +53,7 @@ returns-then-left-eq0-clause-none c =
     let r = c.next_byte-seen.result in
     let next = c.next_byte-seen.new.in_comment in
     let s = step_text c.args.bytes.now c.loop-at.at 0 r c.loop-at.in_comment next c.loop-at-test.true v.text c.next_byte-seen.ensures in
-    let b = found c.args.bytes.now c.loop-at.at r c.args.number c.loop-at.left next c.loop-at.in_word s v.word (sym c.begins_item-begins.ensures ∙ c.if-not-begins.false) v.count c.if-left-eq0.true in
+    let b = numbered_item_begins c.args.bytes.now c.loop-at.at r c.args.number c.loop-at.left next c.loop-at.in_word s v.word (sym c.begins_item-begins.ensures ∙ c.if-not-begins.false) v.count c.if-left-eq0.true in
     (λ h. absurd (cc), λ le. absurd (more_items c.args.bytes.now c.args.number c.loop-at.at b le))
 
 pub returns-clause-none : goal.returns-clause-none

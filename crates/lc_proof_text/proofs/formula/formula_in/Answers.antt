@@ -6,7 +6,7 @@ use Rattle.lc_reading.proofs.Files.{trees_fault}
 use Rattle.lc_reading.specs.Readings.{fine}
 use Rattle.lc_table.specs.Tables.{formulas_in}
 use Rattle.lc_text.proofs.Variables.{each_in}
-use Rattle.lc_proof_text.proofs.Founded.{below, founded}
+use Rattle.lc_proof_text.proofs.Founded.{below, fine_claim_founded}
 use Rattle.lc_proof_text.proofs.Sections.{file_at}
 use Rattle.lc_proof_text.specs.Files.{seen_claim, claim_in, only, form_reading, file_reading}
 use Rattle.lc_proof_text.specs.declared.claim.ClaimTrees.{ClaimTrees}
@@ -38,19 +38,19 @@ returns-clause-hypotheses c =
     let whole = c.cursor.result in
     let file = c.in_ok-entered.field-0 in
     let reads = entered_reads (owner_of whole) (number_of whole) (rest_of whole) c.args.forms c.in_ok-claim.claim file c.cursor.ensures.owner c.cursor.ensures.number c.cursor.ensures.rest c.in_ok-claim.ensures c.in_ok-entered.ensures.same in
-    each_in (below file.goal.vars) (formulas_in file.terms file.goal.hypotheses) (founded c.args.forms (claim_in file) reads).hypotheses
+    each_in (below file.goal.vars) (formulas_in file.terms file.goal.hypotheses) (fine_claim_founded c.args.forms (claim_in file) reads).hypotheses
 
 pub returns-clause-goal : goal.returns-clause-goal
 returns-clause-goal c =
     let whole = c.cursor.result in
     let file = c.in_ok-entered.field-0 in
     let reads = entered_reads (owner_of whole) (number_of whole) (rest_of whole) c.args.forms c.in_ok-claim.claim file c.cursor.ensures.owner c.cursor.ensures.number c.cursor.ensures.rest c.in_ok-claim.ensures c.in_ok-entered.ensures.same in
-    (founded c.args.forms (claim_in file) reads).goal 0
+    (fine_claim_founded c.args.forms (claim_in file) reads).goal 0
 
 pub returns-clause-steps : goal.returns-clause-steps
 returns-clause-steps c =
     let whole = c.cursor.result in
     let file = c.in_ok-entered.field-0 in
     let reads = entered_reads (owner_of whole) (number_of whole) (rest_of whole) c.args.forms c.in_ok-claim.claim file c.cursor.ensures.owner c.cursor.ensures.number c.cursor.ensures.rest c.in_ok-claim.ensures c.in_ok-entered.ensures.same in
-    let room = (founded c.args.forms (claim_in file) reads).room in
+    let room = (fine_claim_founded c.args.forms (claim_in file) reads).room in
     omega (arith, room, items_fit_lem c.requires.0 c.args.forms c.requires.1, c.requires.1.size)

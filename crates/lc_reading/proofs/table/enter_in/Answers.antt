@@ -3,7 +3,7 @@ use Rattle.std.specs.Option.{option_or}
 use Rattle.lc_reading.specs.Words.{is}
 use Rattle.lc_reading.specs.Entries.{names_at, are_within, name_at}
 use Rattle.lc_reading.specs.Listed.{place_of}
-use Rattle.lc_reading.proofs.Entries.{entered, are_within-last, names_at-last}
+use Rattle.lc_reading.proofs.Entries.{place_of_entered, are_within-last, names_at-last}
 use Rattle.lc_reading.proofs.table.enter_in.Goals as goal
 
 pub returns : goal.returns
@@ -22,7 +22,7 @@ returns c =
           c.in_ok-number.ensures.placed w
           ∙ ap (λ p. option_or p (cond (is w c.args.name.now) (Some c.in_ok-place.place) None)) (c.requires.placed w)
           ∙ ap (λ k. option_or (place_of (names_at old numbers) w) (cond (is w c.args.name.now) (Some k) None)) (c.in_ok-place.ensures ∙ count)
-          ∙ entered old new numbers number c.args.name.now w kept c.in_ok-number.ensures.named
+          ∙ place_of_entered old new numbers number c.args.name.now w kept c.in_ok-number.ensures.named
           ∙ ap (λ ks. place_of (names_at new ks) w) (sym items);
       names = ap (names_at new) items
           ∙ names_at-last new numbers number

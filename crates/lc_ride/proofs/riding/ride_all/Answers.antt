@@ -4,12 +4,12 @@ use Rattle.lc_term.specs.Drafts.{written_in_draft, saved_in_draft, draft_columns
 use Rattle.lc_term.specs.State.{env_of, variable_count}
 use Rattle.lc_action.specs.ActionView.{first_of}
 use Rattle.lc_seq.specs.SpecView.{operations_of}
-use Rattle.lc_seq.proofs.Runs.{dropped, dropped_all, and_right}
+use Rattle.lc_seq.proofs.Runs.{drop_at_element, dropped_all, and_right}
 use Rattle.lc_rider.specs.RiderView.{rider_of, riders_of}
 use Rattle.lc_ride.specs.Riding.{do_rider, do_all}
 use Rattle.lc_ride.specs.RidingFits.{RiderFits, RidersFit}
 use Rattle.lc_ride.specs.RideView.{AreThere, IsRidden, rider_is_evaluable}
-use Rattle.lc_ride.proofs.Deeding.{faulted}
+use Rattle.lc_ride.proofs.Deeding.{fault_is_ridden}
 use Rattle.lc_ride.proofs.InOrder.{Answers, none-left, one-done, one-not-done}
 use Rattle.lc_ride.proofs.riding.ride_all.Goals as goal
 
@@ -36,7 +36,7 @@ returns-then-not-branch-clause-done c =
     let marks = c.loop-rider.marks.items in
     let r = rider_of c.rider-item.result in
     let rs = riders_of (drop (c.loop-rider.rider-index + 1) c.args.riders.now) in
-    let front = ap riders_of (dropped c.args.riders.now c.loop-rider.rider-index c.rider-item.result (omega arith) c.rider-item.is) in
+    let front = ap riders_of (drop_at_element c.args.riders.now c.loop-rider.rider-index c.rider-item.result (omega arith) c.rider-item.is) in
     let new = c.do_rider.new.marks.items in
     let mid = written_in_draft c.do_rider.new.draft in
     let not-done : c.in_ok-do_rider.field-0 ≡ false = search rules in
@@ -55,11 +55,11 @@ returns-in_err-do_rider-clause-done c =
     let marks = c.loop-rider.marks.items in
     let r = rider_of c.rider-item.result in
     let rs = riders_of (drop (c.loop-rider.rider-index + 1) c.args.riders.now) in
-    let front = ap riders_of (dropped c.args.riders.now c.loop-rider.rider-index c.rider-item.result (omega arith) c.rider-item.is) in
+    let front = ap riders_of (drop_at_element c.args.riders.now c.loop-rider.rider-index c.rider-item.result (omega arith) c.rider-item.is) in
     let new = c.do_rider.new.marks.items in
     let mid = written_in_draft c.do_rider.new.draft in
     let fault = c.in_err-do_rider.field-0.0 in
-    let here = faulted (RidersFit ops first x o e m (r ∷ rs)) (RiderFits ops first x o e m r) (do_all ops first x o e m (r ∷ rs)) marks new mid c.from_residual.result fault c.from_residual.ensures.1 (λ t. t.0) c.in_err-do_rider.ensures.done in
+    let here = fault_is_ridden (RidersFit ops first x o e m (r ∷ rs)) (RiderFits ops first x o e m r) (do_all ops first x o e m (r ∷ rs)) marks new mid c.from_residual.result fault c.from_residual.ensures.1 (λ t. t.0) c.in_err-do_rider.ensures.done in
     c.loop-rider.invariant.leads new mid c.from_residual.result (subst (λ xs. Answers ops first x o e m xs marks new mid c.from_residual.result) (sym front) here)
 
 pub do_rider-requires-clause-rides : goal.do_rider-requires-clause-rides
@@ -82,7 +82,7 @@ loop-rider-preserved c =
     let marks = c.loop-rider.marks.items in
     let r = rider_of c.rider-item.result in
     let rs = riders_of (drop (c.loop-rider.rider-index + 1) c.args.riders.now) in
-    let front = ap riders_of (dropped c.args.riders.now c.loop-rider.rider-index c.rider-item.result (omega arith) c.rider-item.is) in
+    let front = ap riders_of (drop_at_element c.args.riders.now c.loop-rider.rider-index c.rider-item.result (omega arith) c.rider-item.is) in
     let new = c.do_rider.new.marks.items in
     let mid = written_in_draft c.do_rider.new.draft in
     let is-done : c.in_ok-do_rider.field-0 ≡ true = search rules in

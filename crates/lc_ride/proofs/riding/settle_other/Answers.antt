@@ -12,7 +12,7 @@ use Rattle.lc_rider.specs.Rider.{Other, Marks}
 use Rattle.lc_rider.specs.RiderView.{choosing_of}
 use Rattle.lc_ride.specs.Riding.{help, do_deed}
 use Rattle.lc_ride.specs.RidingFits.{HelpFits, DeedFits}
-use Rattle.lc_ride.proofs.Deeding.{faulted}
+use Rattle.lc_ride.proofs.Deeding.{fault_is_ridden}
 use Rattle.lc_ride.proofs.Wherever.{not-picked, picked, by-client}
 use Rattle.lc_ride.proofs.riding.settle_other.Goals as goal
 
@@ -31,7 +31,7 @@ returns-in_err-number-clause-done c =
     let e = env_of c.args.rides.now.env.now in
     let t = term_of c.args.client.now in
     let d = Marks (Other t c.args.operation.0) (choosing_of c.args.by.now) in
-    faulted (DeedFits ops first x o e m d) (TermFits m e t) (do_deed ops first x o e m d) c.args.marks.now.items c.args.marks.now.items m
+    fault_is_ridden (DeedFits ops first x o e m d) (TermFits m e t) (do_deed ops first x o e m d) c.args.marks.now.items c.args.marks.now.items m
     c.from_residual-in_err-number.result Overflow c.from_residual-in_err-number.ensures.1 (λ fits. fits.1.0)
     (λ fits. c.in_err-number.ensures (subst (λ s. TermFits s e t) (sym c.state-2.ensures.written) fits))
 

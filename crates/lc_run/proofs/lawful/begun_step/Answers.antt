@@ -6,7 +6,7 @@ use Rattle.lc_sound.specs.Instrumented.{Instrumented}
 use Rattle.lc_outline.specs.DevelopmentView.{development_view}
 use Rattle.lc_steps.specs.StepView.{what_of, world_in, MayBegin}
 use Rattle.lc_steps.specs.Stepping.{world_with}
-use Rattle.lc_run.proofs.Growing.{unbegun}
+use Rattle.lc_run.proofs.Growing.{fault_of_begun}
 use Rattle.lc_run.proofs.lawful.begun_step.Goals as goal
 
 pub returns-in-Ok-clause-step : goal.returns-in-Ok-clause-step
@@ -22,5 +22,5 @@ pub returns-in-Err-clause-fault : goal.returns-in-Err-clause-fault
 returns-in-Err-clause-fault c =
     let w = world_in c.args.draft.now c.args.clients.now in
     c.run_fault.ensures
-    ∙ unbegun (development_view c.development.result.now) w c.args.client c.args.operation.0 c.args.numbers.now (written_in_draft c.begin.new.draft) c.in-Err.fault
+    ∙ fault_of_begun (development_view c.development.result.now) w c.args.client c.args.operation.0 c.args.numbers.now (written_in_draft c.begin.new.draft) c.in-Err.fault
     (subst (λ D. MayBegin D w c.args.client c.args.operation.0 c.args.numbers.now) (sym c.development.ensures.shown) c.requires.may) c.in-Err.ensures.begun

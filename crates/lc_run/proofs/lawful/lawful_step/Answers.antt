@@ -7,7 +7,7 @@ use Rattle.lc_sound.specs.Instrumented.{IsRun}
 use Rattle.lc_steps.specs.StepView.{world_in, IsAdvanced}
 use Rattle.lc_run.specs.LabelView.{labels_of}
 use Rattle.lc_run.specs.Taken.{IsUntold}
-use Rattle.lc_run.proofs.Growing.{untold}
+use Rattle.lc_run.proofs.Growing.{fault_is_untold}
 use Rattle.lc_run.proofs.Lawfully.{never-unlawful}
 use Rattle.lc_run.proofs.lawful.lawful_step.Goals as goal
 
@@ -29,4 +29,4 @@ returns-in-Err-clause-fault c =
     let w = world_in c.args.draft.now c.args.clients.now in
     let columns = written_in_draft c.advance.new.draft in
     let told = subst (λ d. IsAdvanced d w c.args.client columns (Err c.in-Err.fault)) c.development.ensures.shown c.in-Err.ensures.advanced in
-    subst (λ f. IsUntold D w c.args.client f) (sym c.run_fault.ensures) (untold D w c.args.client columns c.in-Err.fault c.requires.call told)
+    subst (λ f. IsUntold D w c.args.client f) (sym c.run_fault.ensures) (fault_is_untold D w c.args.client columns c.in-Err.fault c.requires.call told)

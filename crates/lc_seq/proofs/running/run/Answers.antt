@@ -7,7 +7,7 @@ use Rattle.lc_seq.specs.Specification.{chosen}
 use Rattle.lc_seq.specs.SpecView.{branch_of, branches_of, choice_of}
 use Rattle.lc_seq.proofs.Choosing.{left_in}
 use Rattle.lc_seq.specs.TextStep.{run, RunFits, UpdatesFit, TermsFit, writes_of, values_of}
-use Rattle.lc_seq.proofs.Runs.{run-within, AreRun, dropped, and_left, decided, run_next, taken_fits, taken_gives, handed_up}
+use Rattle.lc_seq.proofs.Runs.{run-within, AreRun, drop_at_element, and_left, answer_is_truth, run_next, taken_fits, taken_gives, handed_up}
 use Rattle.lc_seq.proofs.running.run.Goals as goal
 use Rattle.lc_seq.proofs.running.run.Goals.{In_ok-eval}
 
@@ -17,13 +17,13 @@ are : (c : In_ok-eval)
     (branch_of c.branch-item.result ∷ chosen (choice_of c.args.pick.now) (branches_of (drop (c.loop-branch.branch-index + 1) c.args.branches.now)))
 are c =
     let ch = choice_of c.args.pick.now in
-    let front = ap (λ xs. chosen ch (branches_of xs)) (dropped c.args.branches.now c.loop-branch.branch-index c.branch-item.result (omega arith) c.branch-item.is)
+    let front = ap (λ xs. chosen ch (branches_of xs)) (drop_at_element c.args.branches.now c.loop-branch.branch-index c.branch-item.result (omega arith) c.branch-item.is)
     ∙ left_in ch (branch_of c.branch-item.result) (branches_of (drop (c.loop-branch.branch-index + 1) c.args.branches.now)) (sym c.agrees.ensures ∙ c.if-not-agrees.false) in
     subst (AreRun (state_of c.args.state.now) (env_of c.args.env.now) (column_count c.args.state.now) (variable_count c.args.env.now) (chosen ch (branches_of c.args.branches.now))) front c.loop-branch.invariant
 
 -- whether its guard holds
 guard : (c : In_ok-eval) → truth (state_of c.args.state.now) (env_of c.args.env.now) outside (branch_of c.branch-item.result).guard ≡ c.in_ok-eval.field-0
-guard c = sym (decided _ _ _ c.in_ok-eval.field-0 (and_left _ _ (and_left _ _ (and_left _ _ (are c).resolved))) c.in_ok-eval.ensures.meaning)
+guard c = sym (answer_is_truth _ _ _ c.in_ok-eval.field-0 (and_left _ _ (and_left _ _ (and_left _ _ (are c).resolved))) c.in_ok-eval.ensures.meaning)
 
 pub returns-in_err-outcome-clause-computed : goal.returns-in_err-outcome-clause-computed
 returns-in_err-outcome-clause-computed c =

@@ -5,7 +5,7 @@ use Rattle.std.proofs.lemmas.Int.{to_z-of_z}
 use Rattle.lc_term.specs.State.{state_of, column_count}
 use Rattle.lc_term.specs.SystemColumns.{noted, note_columns}
 use Rattle.lc_action.specs.ActionView.{first_of}
-use Rattle.lc_steps.proofs.Replying.{none-noted, note-unread, noted-as, notes-there, stands}
+use Rattle.lc_steps.proofs.Replying.{none-noted, note-unread, noted-as, notes-there, stand_in_row}
 use Rattle.lc_steps.proofs.replies.is_noted.Goals as goal
 
 pub returns-in_err-flag : goal.returns-in_err-flag
@@ -37,4 +37,4 @@ returns c =
     let is = c.in_ok-flag.ensures.1 ∙ ap (λ k. m k x) c.noted.ensures in
     let same = to_z-of_z w64 c.in_ok-flag.flag (subst (FitsSigned w64) (sym c.in_ok-flag.ensures.1) c.in_ok-flag.ensures.0) in
     noted-as first m c.args.client ns c.is_row.result fits (sym is ∙ (sym same ∙ ap (to_z w64) c.if-flag-ne1.false))
-    (stands first m c.args.client ns (note_columns first) c.notes-columns.result c.is_row.result c.notes-columns.ensures c.is_row.ensures)
+    (stand_in_row first m c.args.client ns (note_columns first) c.notes-columns.result c.is_row.result c.notes-columns.ensures c.is_row.ensures)

@@ -14,7 +14,7 @@ use Rattle.lc_ride.specs.RideView.{AreThere, rider_is_evaluable}
 use Rattle.lc_steps.specs.Stepping.{ridden, RiddenFits}
 use Rattle.lc_steps.specs.StepParts.{AreRidden}
 use Rattle.lc_steps.proofs.Ridden.{ridden-from, all-done, not-all-done, faulted}
-use Rattle.lc_steps.proofs.Seen.{there, small}
+use Rattle.lc_steps.proofs.Seen.{columns_are_there, arity_is_small}
 use Rattle.lc_steps.proofs.riding.ride.Goals as goal
 
 pub ride_all-requires-clause-there : goal.ride_all-requires-clause-there
@@ -23,14 +23,14 @@ ride_all-requires-clause-there c =
     let n = draft_columns c.args.draft.now in
     let R : is_resolved D ≡ true = subst (λ d. is_resolved d ≡ true) c.parts.ensures.shown c.parts.ensures.resolved in
     let ops = c.operations.ensures ∙ ap (λ d. d.specification.operations) c.parts.ensures.shown in
-    subst (λ z. AreThere z (first_of c.system_columns-system.result) n) (sym ops) (subst (λ f. AreThere D.specification.operations f n) (sym c.system_columns-system.ensures) (there D R n c.requires.columns))
+    subst (λ z. AreThere z (first_of c.system_columns-system.result) n) (sym ops) (subst (λ f. AreThere D.specification.operations f n) (sym c.system_columns-system.ensures) (columns_are_there D R n c.requires.columns))
 
 pub ride_all-requires-clause-few : goal.ride_all-requires-clause-few
 ride_all-requires-clause-few c =
     let D = development_view c.args.development.now in
     let R : is_resolved D ≡ true = subst (λ d. is_resolved d ≡ true) c.parts.ensures.shown c.parts.ensures.resolved in
     let ops = c.operations.ensures ∙ ap (λ d. d.specification.operations) c.parts.ensures.shown in
-    λ o. subst (λ z. arity z o ≤ argument_limit) (sym ops) (small D R o)
+    λ o. subst (λ z. arity z o ≤ argument_limit) (sym ops) (arity_is_small D R o)
 
 pub ride_all-requires-clause-seen : goal.ride_all-requires-clause-seen
 ride_all-requires-clause-seen c =

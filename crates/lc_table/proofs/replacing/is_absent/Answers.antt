@@ -1,7 +1,7 @@
 use Rattle.std.proofs.Common.{subst, sym, ◌∙◌, map}
 use Rattle.std.proofs.lemmas.List.{take_all}
 use Rattle.lc_table.specs.Put.{entry_of}
-use Rattle.lc_table.proofs.Entries.{IsAbsent, missing, absent_step}
+use Rattle.lc_table.proofs.Entries.{IsAbsent, column_at_absent, absent_step}
 use Rattle.lc_table.proofs.replacing.is_absent.Goals as goal
 
 pub loop-entry-preserved : goal.loop-entry-preserved
@@ -10,5 +10,5 @@ loop-entry-preserved c =
 
 pub returns : goal.returns
 returns c = λ _.
-    missing c.args.column.0 (map entry_of c.args.columns.now)
+    column_at_absent c.args.column.0 (map entry_of c.args.columns.now)
     (subst (λ ps. IsAbsent c.args.column.0 (map entry_of ps)) (take_all c.loop-entry.entry-index c.args.columns.now c.loop-entry-test.false) c.loop-entry.invariant)

@@ -5,14 +5,14 @@ use Rattle.lc_outline.specs.declared.development.Development.{Development}
 use Rattle.lc_words.specs.Tasks.{path_in}
 use Rattle.lincheck.specs.Check.{OpensAs}
 use Rattle.lincheck.specs.declared.answer.Answer.{Answer}
-use Rattle.lincheck.proofs.Opened.{shown, told_refused}
+use Rattle.lincheck.proofs.Opened.{text_answers_development, told_refused}
 use Rattle.lincheck.proofs.condition.answer_chosen.Goals as goal
 
 pub returns-in_ok-chosen_conditions-in-Ok-clause-answers : goal.returns-in_ok-chosen_conditions-in-Ok-clause-answers
 returns-in_ok-chosen_conditions-in-Ok-clause-answers g c =
     let known = g.F.Files.bytes_at c.args.files.now c.args.path.now in
     let says = subst (λ (o : Result Development Answer). IfSome known (λ file. OpensAs file o)) c.in-Ok.is c.in_ok-development.ensures.opens in
-    shown (chosen_text (path_in c.args.point) (path_in c.args.kind)) known (development_view c.in-Ok.development) c.in_ok-chosen_conditions-in-Ok.field-0.items says
+    text_answers_development (chosen_text (path_in c.args.point) (path_in c.args.kind)) known (development_view c.in-Ok.development) c.in_ok-chosen_conditions-in-Ok.field-0.items says
     c.in_ok-chosen_conditions-in-Ok.ensures
 
 pub returns-in-Err-clause-answers : goal.returns-in-Err-clause-answers

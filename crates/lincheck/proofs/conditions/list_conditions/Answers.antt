@@ -8,7 +8,7 @@ use Rattle.lc_words.specs.Tasks.{ListConditions}
 use Rattle.lincheck.specs.Execution.{AnswersTask}
 use Rattle.lincheck.specs.declared.answer.Answer.{Answer}
 use Rattle.lincheck.proofs.Endings.{leaves_broken, leaves_printed}
-use Rattle.lincheck.proofs.Opened.{shown, told_refused}
+use Rattle.lincheck.proofs.Opened.{text_answers_development, told_refused}
 use Rattle.lincheck.proofs.conditions.list_conditions.Goals as goal
 
 pub returns-in_err-print_conditions-in-Ok-clause-leaves : goal.returns-in_err-print_conditions-in-Ok-clause-leaves
@@ -19,7 +19,7 @@ returns-in_err-print_conditions-in-Ok-clause-leaves g c =
     rw (p.1, p.2)
     (leaves_broken (ListConditions c.args.path.now) (AnswersTask (g.F.Files.bytes_at c.args.files.now) (ListConditions c.args.path.now)) (g.O.Write.contents c.args.out.now)
     (g.O.Write.contents c.print_conditions.new.out) (conditions_text (development_view c.in-Ok.development)) 0 c.in_err-print_conditions-in-Ok.field-0.0 tt
-    (shown conditions_text known (development_view c.in-Ok.development) (conditions_text (development_view c.in-Ok.development)) says refl) c.in_err-print_conditions-in-Ok.ensures)
+    (text_answers_development conditions_text known (development_view c.in-Ok.development) (conditions_text (development_view c.in-Ok.development)) says refl) c.in_err-print_conditions-in-Ok.ensures)
 
 pub returns-in-Err-clause-leaves : goal.returns-in-Err-clause-leaves
 returns-in-Err-clause-leaves g c =
@@ -34,4 +34,4 @@ returns-in_ok-print_conditions-in-Ok-clause-leaves g c =
     let known = g.F.Files.bytes_at c.args.files.now c.args.path.now in
     let says = subst (λ (o : Result Development Answer). IfSome known (λ file. OpensAs file o)) c.in-Ok.is c.in_ok-development.ensures.opens in
     let text = conditions_text (development_view c.in-Ok.development) in
-    (text, shown conditions_text known (development_view c.in-Ok.development) text says refl, c.in_ok-print_conditions-in-Ok.ensures)
+    (text, text_answers_development conditions_text known (development_view c.in-Ok.development) text says refl, c.in_ok-print_conditions-in-Ok.ensures)

@@ -1,6 +1,6 @@
 use Rattle.std.proofs.Common.{◌++◌, take, drop, sym, subst, arith}
 use Rattle.lincheck.specs.Reading.{IsFedOn}
-use Rattle.lincheck.proofs.Fed.{filled, fed_on, front_given, fed_more, fed_kept}
+use Rattle.lincheck.proofs.Fed.{filled_front_length, fed_on, front_given, fed_more, fed_kept}
 use Rattle.lincheck.proofs.reading.feed_to_limit.Goals as goal
 use Rattle.lincheck.proofs.reading.feed_to_limit.Goals.{in-Ok+else-is_err, in-Err+else-ne}
 
@@ -10,7 +10,7 @@ loop-turn-preserved g c =
     let left = g.R.Read.remaining c.args.reader.now in
     let mid = g.R.Read.remaining c.loop-turn.reader in
     let right = g.R.Read.remaining c.read.new.self in
-    let room = filled c.read.new.buf c.loop-turn.piece c.min-room.result c.loop-turn.left c.min-room.ensures c.loop-turn.invariant.0 c.read.auto.buf in (
+    let room = filled_front_length c.read.new.buf c.loop-turn.piece c.min-room.result c.loop-turn.left c.min-room.ensures c.loop-turn.invariant.0 c.read.auto.buf in (
       room.2,
       elim c.match-read.branch [
         | in-Ok+else-is_err w ↦

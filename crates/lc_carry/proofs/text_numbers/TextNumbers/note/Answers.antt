@@ -1,7 +1,7 @@
 use Rattle.std.proofs.Common.{Some, None, cond, ap, ◌∙◌}
 use Rattle.std.proofs.lemmas.Result.{on_ok_weaker}
 use Rattle.std.specs.Option.{option_or}
-use Rattle.lc_carry.proofs.Noted.{after, keys_later, keys_noted, listed_later, number_noted}
+use Rattle.lc_carry.proofs.Noted.{holds_after_noting, keys_later, keys_noted, listed_later, number_noted}
 use Rattle.lc_carry.specs.Pieces.{kept_in}
 use Rattle.lc_carry.specs.TextNumbers.{number_of, listed, noted, AreKeys}
 use Rattle.lc_reading.specs.Words.{is}
@@ -15,7 +15,7 @@ invariant_of-self-2 c =
     let kept = kept_in c.enter.new.kept.keys in
     let es = c.self.inside.numbers.entries in
     let all = keys_later (kept_in c.self.inside.kept.keys) kept es c.in_ok-key.ensures.kept c.self.invariant in
-    after c.note_key.result (AreKeys kept) c.note_key.new.numbers.entries (noted es c.in_ok-key.key c.args.number) es c.note_key.ensures.noted c.note_key.ensures.unchanged
+    holds_after_noting c.note_key.result (AreKeys kept) c.note_key.new.numbers.entries (noted es c.in_ok-key.key c.args.number) es c.note_key.ensures.noted c.note_key.ensures.unchanged
     (keys_noted kept es c.args.text.now c.in_ok-key.key c.args.number all c.in_ok-key.ensures.key) all
 
 pub returns : goal.returns

@@ -1,7 +1,7 @@
 use Rattle.std.proofs.Common.{Ok, true, false, sym, subst}
 use Rattle.lc_outline.specs.DevelopmentView.{development_view}
 use Rattle.lc_cond.specs.Conditions.{conditions}
-use Rattle.lc_check.proofs.Stepping.{none_if, untold, told_so, certain_last, missing_at_last, all_in_turn}
+use Rattle.lc_check.proofs.Stepping.{none_if, untold_in_turn, told_so, certain_last, missing_at_last, all_in_turn}
 use Rattle.lc_check.proofs.Walking.{went_on}
 use Rattle.lc_check.specs.Answers.{CountsAll}
 use Rattle.lc_check.specs.Walking.{IsAdvanced}
@@ -18,7 +18,7 @@ returns-then-branch c = λ taken h rises.
     let old = c.args.self.now in
     let new = c.advance.new.self in
     let here : IsAdvanced d old.walk new true = subst (IsAdvanced d old.walk new) c.if-branch.true c.in_ok-advance.ensures in
-    missing_at_last d taken new here.1 (went_on d taken old.walk new (untold d taken old (none_if old.told c.in_default.not-Some) h) here.0)
+    missing_at_last d taken new here.1 (went_on d taken old.walk new (untold_in_turn d taken old (none_if old.told c.in_default.not-Some) h) here.0)
 
 pub returns : goal.returns
 returns c = λ taken h rises.
@@ -26,4 +26,4 @@ returns c = λ taken h rises.
     let old = c.args.self.now in
     let new = c.advance.new.self in
     let here : IsAdvanced d old.walk new false = subst (IsAdvanced d old.walk new) c.if-branch.false c.in_ok-advance.ensures in
-    subst (λ n. CountsAll taken (conditions d) (Ok n)) (sym here.1) (all_in_turn d taken old.walk (untold d taken old (none_if old.told c.in_default.not-Some) h) here.0)
+    subst (λ n. CountsAll taken (conditions d) (Ok n)) (sym here.1) (all_in_turn d taken old.walk (untold_in_turn d taken old (none_if old.told c.in_default.not-Some) h) here.0)

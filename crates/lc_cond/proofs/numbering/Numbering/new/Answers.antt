@@ -7,7 +7,7 @@ use Rattle.lc_cond.specs.Numbering.{count_before, AreFirsts}
 use Rattle.lc_cond.specs.PartView.{part_of, parts_along}
 use Rattle.lc_cond.proofs.Few.{conditions_few}
 use Rattle.lc_cond.proofs.Numbered.{stands_within, stands_not, firsts_pushed, one_counted, before_few}
-use Rattle.lc_cond.proofs.Streamed.{ended}
+use Rattle.lc_cond.proofs.Streamed.{no_part_read}
 use Rattle.lc_cond.proofs.numbering.Numbering.new.Goals as goal
 
 pub returns-in_default : goal.returns-in_default
@@ -19,7 +19,7 @@ returns-in_default c =
     let es = c.in_ok-edges.edges.items in
     let read = c.part_at-part.ensures ∙ ap (λ l. slice_get (parts_along D (map edge_of l)) place) c.deref.ensures.value in
     let none : slice_get (parts D) place ≡ None =
-    subst (λ l. slice_get (parts_along D l) place ≡ None) c.in_ok-edges.ensures (ended c.part_at-part.result (slice_get (parts_along D (map edge_of es)) place) c.in_default.not-Some read) in
+    subst (λ l. slice_get (parts_along D l) place ≡ None) c.in_ok-edges.ensures (no_part_read c.part_at-part.result (slice_get (parts_along D (map edge_of es)) place) c.in_default.not-Some read) in
     let past = stands_not (parts D) place none in
     let few = c.parts.invariant.few in
     let len = c.len.ensures in

@@ -6,7 +6,7 @@ use Rattle.lc_cond.specs.Numbering.{AddsWith}
 use Rattle.lc_cond.specs.PartView.{part_of, parts_along}
 use Rattle.lc_cond.proofs.Few.{part_limited, conditions_few}
 use Rattle.lc_cond.proofs.Numbered.{stands_within, first_at, before_few, part_stands, none_stands}
-use Rattle.lc_cond.proofs.Streamed.{ended}
+use Rattle.lc_cond.proofs.Streamed.{no_part_read}
 use Rattle.lc_cond.proofs.numbering.Numbering.part_with.Goals as goal
 
 pub returns-in_default-clause-part : goal.returns-in_default-clause-part
@@ -15,7 +15,7 @@ returns-in_default-clause-part c =
     let n = c.args.self.now in
     let place = c.place_with-place.result in
     let read = c.part_at.ensures ∙ ap (λ l. slice_get (parts_along D (map edge_of l)) place) c.deref.ensures.value in
-    let along = ended c.part_at.result (slice_get (parts_along D (map edge_of n.edges.items)) place) c.in_default.not-Some read in
+    let along = no_part_read c.part_at.result (slice_get (parts_along D (map edge_of n.edges.items)) place) c.in_default.not-Some read in
     let none : slice_get (parts D) place ≡ None = subst (λ es. slice_get (parts_along D es) place ≡ None) c.requires.edges_are along in
     none_stands D c.args.terms.now c.args.number place (record { first = 0; conditions = c.new-conditions.result }) refl c.new-conditions.ensures.items none (λ lt. (c.place_with-place.ensures D c.requires lt).0)
 

@@ -7,7 +7,7 @@ use Rattle.lc_cond.specs.Conditions.{conditions_in}
 use Rattle.lc_cond.specs.PartView.{part_of, parts_along}
 use Rattle.lc_cond.proofs.Few.{part_limited}
 use Rattle.lc_cond.proofs.FewParts.{parts_few, made_few}
-use Rattle.lc_cond.proofs.Streamed.{ended, none_left, part_given}
+use Rattle.lc_cond.proofs.Streamed.{no_part_read, none_left, part_given}
 use Rattle.lc_cond.proofs.stream.ConditionStream.next_part.Goals as goal
 
 pub returns-in_default-clause-next : goal.returns-in_default-clause-next
@@ -16,7 +16,7 @@ returns-in_default-clause-next c =
     let D = development_view c.args.development.now in
     let ps = parts_along D (map edge_of before.edges.items) in
     let at = c.part_at.ensures ∙ ap (λ l. slice_get (parts_along D (map edge_of l)) before.place) c.deref.ensures.value in
-    let (nothing, none) = none_left D ps before.place (ended c.part_at.result (slice_get ps before.place) c.in_default.not-Some at) in
+    let (nothing, none) = none_left D ps before.place (no_part_read c.part_at.result (slice_get ps before.place) c.in_default.not-Some at) in
     record { nothing = nothing; none = none; same = refl }
 
 pub push_part-requires : goal.push_part-requires

@@ -2,7 +2,7 @@ use Rattle.std.proofs.Common.{◌≡◌, ◌+◌, ◌∷◌, ◌<◌, ◌^◌, l
 use Rattle.std.specs.Str.Parse.{digits_value}
 use Rattle.json.specs.Token.{Token}
 use Rattle.lc_hist.specs.JsonCursor.{begins_at}
-use Rattle.lc_hist.proofs.JsonLexed.{at_below, below_of, given_of, some_of, negated}
+use Rattle.lc_hist.proofs.JsonLexed.{at_below, below_of, given_of, some_of, wrapped_negated}
 use Rattle.lc_hist.proofs.cursor.Cursor.next_negative.Goals as goal
 
 pub returns : goal.returns
@@ -21,5 +21,5 @@ returns c =
     let fits : digits_value 10 written.digits < 2 ^ 63 = omega (arith, value, small) in (
       45 ∷ written.digits,
       sym c.self.view_is ∙ at_below a.place a.text.now a.at (a.at + 1) found.0 found.1 may lt is refl written ∙ ap (λ ts. Token.number (45 ∷ written.digits) ∷ ts) (sym c.behind-next.ensures),
-      below_of written.digits _ written.are written.some written.short more fits (negated found.0 c.in_ok-number.number small given ∙ ap (λ n. neg_ℤ (pos n)) value),
+      below_of written.digits _ written.are written.some written.short more fits (wrapped_negated found.0 c.in_ok-number.number small given ∙ ap (λ n. neg_ℤ (pos n)) value),
     )

@@ -1,4 +1,4 @@
-use Rattle.lc_hist.proofs.JsonFound.{Passed, passed, none_left}
+use Rattle.lc_hist.proofs.JsonFound.{Passed, next_item_passed, none_left}
 use Rattle.lc_hist.proofs.document.Items.next.Goals.{In_ok-element}
 use Rattle.lc_hist.proofs.document.Items.next.Goals as goal
 
@@ -7,7 +7,7 @@ returns-in_err-element-clause-value c =
     rw (c.from_residual.ensures, ← c.self.view_is) (none_left c.self.inside.items c.next.new.self c.self.invariant c.in_err-element.ensures.value)
 
 went_on : (c : In_ok-element) → Passed c.self.inside.items c.in_ok-element.element c.next.new.self
-went_on c = passed c.self.inside.items c.in_ok-element.element c.next.new.self c.self.invariant c.in_ok-element.ensures.value
+went_on c = next_item_passed c.self.inside.items c.in_ok-element.element c.next.new.self c.self.invariant c.in_ok-element.ensures.value
 
 pub invariant_of-result : goal.invariant_of-result
 invariant_of-result c = (went_on c).0

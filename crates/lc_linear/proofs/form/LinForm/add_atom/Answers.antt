@@ -3,8 +3,8 @@ use Rattle.std.specs.Prelude.{pos, ◌+ℤ◌, FitsSigned, unwrap_or}
 use Rattle.std.specs.Int.{w128}
 use Rattle.std.proofs.lemmas.Int.{ints}
 use Rattle.lc_linear.specs.Numbered.{coefficient_in}
-use Rattle.lc_linear.proofs.Entries.{AllFit-insert_entry, coefficient_in-found, found_sum, changed, added_new, added_old}
-use Rattle.lc_linear.proofs.Numbers.{kept, kept_fits}
+use Rattle.lc_linear.proofs.Entries.{AllFit-insert_entry, coefficient_in-found, found_sum, set_inserted_value, added_new, added_old}
+use Rattle.lc_linear.proofs.Numbers.{wide_number_kept, kept_fits}
 use Rattle.lc_linear.proofs.form.LinForm.add_atom.Goals as goal
 
 pub invariant_of-self-in_default : goal.invariant_of-self-in_default
@@ -18,7 +18,7 @@ invariant_of-self-in_default-checked_add c =
 pub returns-in_default-clause-ok : goal.returns-in_default-clause-ok
 returns-in_default-clause-ok c =
     let e = c.in_ok-index.ensures in
-    added_new c.args.self.now.constant c.args.count _ _ _ _ _ e.entries (kept _ c.ranges.count) e.old c.in_default.is
+    added_new c.args.self.now.constant c.args.count _ _ _ _ _ e.entries (wide_number_kept _ c.ranges.count) e.old c.in_default.is
 
 pub returns-in_default-checked_add-clause-large : goal.returns-in_default-checked_add-clause-large
 returns-in_default-checked_add-clause-large c = λ _ fits.
@@ -30,7 +30,7 @@ invariant_of-self-2 c =
     let es = c.args.self.now.coefficients.entries in
     let e = c.in_ok-index.ensures in
     let f : FitsSigned w128 c.in-Some-checked_add.sum = subst (FitsSigned w128) (sym c.in-Some-checked_add.ensures.1) c.in-Some-checked_add.ensures.0 in
-    let put = changed es c.insert_full.new.self.entries c.args.atom c.in_ok-index.index (to_z w128 (of_z w128 c.args.count)) _ e.entries e.index in
+    let put = set_inserted_value es c.insert_full.new.self.entries c.args.atom c.in_ok-index.index (to_z w128 (of_z w128 c.args.count)) _ e.entries e.index in
     record { fits = AllFit-insert_entry es _ c.args.atom _ put (kept_fits c.in-Some-checked_add.sum f) c.args.self.now.fits }
 
 pub returns-clause-ok : goal.returns-clause-ok
@@ -38,9 +38,9 @@ returns-clause-ok c =
     let es = c.args.self.now.coefficients.entries in
     let e = c.in_ok-index.ensures in
     let f : FitsSigned w128 c.in-Some-checked_add.sum = subst (FitsSigned w128) (sym c.in-Some-checked_add.ensures.1) c.in-Some-checked_add.ensures.0 in
-    let put = changed es c.insert_full.new.self.entries c.args.atom c.in_ok-index.index (to_z w128 (of_z w128 c.args.count)) (to_z w128 (of_z w128 c.in-Some-checked_add.sum)) e.entries e.index in
+    let put = set_inserted_value es c.insert_full.new.self.entries c.args.atom c.in_ok-index.index (to_z w128 (of_z w128 c.args.count)) (to_z w128 (of_z w128 c.in-Some-checked_add.sum)) e.entries e.index in
     added_old c.args.self.now.constant c.args.count _ es _ c.args.atom put
-    (kept _ f ∙ c.in-Some-checked_add.ensures.1 ∙ found_sum es c.args.atom _ _ _ e.old c.in-Some.is c.ranges.count c.args.self.now.fits)
+    (wide_number_kept _ f ∙ c.in-Some-checked_add.ensures.1 ∙ found_sum es c.args.atom _ _ _ e.old c.in-Some.is c.ranges.count c.args.self.now.fits)
 
 pub returns-in_default-clause-fits : goal.returns-in_default-clause-fits
 returns-in_default-clause-fits c =

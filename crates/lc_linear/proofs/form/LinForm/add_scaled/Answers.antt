@@ -7,7 +7,7 @@ use Rattle.lc_linear.specs.LinForm.{numbers}
 use Rattle.lc_linear.proofs.Adding.{Summed, ProductsFit, nothing_summed, no_products, one_more_summed, one_more_product, next_sum, next_fits, all_added, all_fit}
 use Rattle.lc_linear.proofs.Distinct.{Turn, turn, turned, entry_found, one_more_entry}
 use Rattle.lc_linear.proofs.Faults.{passed_on, too_large}
-use Rattle.lc_linear.proofs.Numbers.{kept, product_bits, product_kept, +ℤ-zero}
+use Rattle.lc_linear.proofs.Numbers.{wide_number_kept, product_bits, product_kept, +ℤ-zero}
 use Rattle.lc_linear.proofs.form.LinForm.add_scaled.Goals as goal
 use Rattle.lc_linear.proofs.form.LinForm.add_scaled.Goals.{In-Some, In-None, In_ok-add_number}
 
@@ -44,7 +44,7 @@ fits c can = next_fits (numbers c.args.self) c.args.other.now.constant _ _ _ _ _
 first_product : (c : In_ok-add_number) → to_z w128 (of_z w128 c.in_ok-product.field-0) ≡ to_z w128 (of_z w128 c.args.multiplier) *ℤ c.args.other.now.constant
 first_product c =
     let constant : FitsSigned w128 c.args.other.now.constant = search rules in
-    product_kept c.in_ok-product.field-0 _ c.in_ok-product.ensures ∙ ap (λ n. to_z w128 (of_z w128 c.args.multiplier) *ℤ n) (kept c.args.other.now.constant constant)
+    product_kept c.in_ok-product.field-0 _ c.in_ok-product.ensures ∙ ap (λ n. to_z w128 (of_z w128 c.args.multiplier) *ℤ n) (wide_number_kept c.args.other.now.constant constant)
 
 pub returns-in_err-product-2 : goal.returns-in_err-product-2
 returns-in_err-product-2 c = passed_on _ _ c.from_residual-in_err-product-2.result _ c.from_residual-in_err-product-2.ensures.1 (λ met can.
@@ -56,7 +56,7 @@ loop-atom-preserved c =
     let at = (goal.at.loop-atom-preserved c).In-Some in
     let k = to_z w128 (of_z w128 c.args.multiplier) in
     let es = (map deref_pair c.loop-atom.yielded) in
-    let m = product_kept c.in_ok-product-2.field-0 _ c.in_ok-product-2.ensures ∙ ap (λ n. k *ℤ n) (kept _ (coefficient at)) in
+    let m = product_kept c.in_ok-product-2.field-0 _ c.in_ok-product-2.ensures ∙ ap (λ n. k *ℤ n) (wide_number_kept _ (coefficient at)) in
     let fit = subst (FitsSigned w128) (sym (product_kept c.in_ok-product-2.field-0 _ c.in_ok-product-2.ensures)) c.in_ok-product-2.ensures.0 in
     let ys = c.loop-atom.yielded in
     let snoc = sym (one_more_entry ys (c.in-Some.atom, c.in-Some.coefficient)) in
@@ -72,10 +72,10 @@ returns-in_err-add_atom c = passed_on _ _ c.from_residual-in_err-add_atom.result
     let k = to_z w128 (of_z w128 c.args.multiplier) in
     let n = c.in-Some.coefficient.now in
     let x = c.in-Some.atom.now in
-    let m = product_kept c.in_ok-product-2.field-0 _ c.in_ok-product-2.ensures ∙ ap (λ n. k *ℤ n) (kept _ (coefficient at)) in
+    let m = product_kept c.in_ok-product-2.field-0 _ c.in_ok-product-2.ensures ∙ ap (λ n. k *ℤ n) (wide_number_kept _ (coefficient at)) in
     let sum = next_sum k _ (map deref_pair c.loop-atom.yielded) x n (this at).fresh m (numbers c.add_number.new.self) (numbers c.loop-atom.sum) c.loop-atom.invariant.summed in
     let start : numbers c.add_number.new.self (Some x) ≡ numbers c.args.self (Some x) = c.in_ok-add_number.ensures.ok (Some x) ∙ +ℤ-zero (numbers c.args.self (Some x)) in
-    let whole = ap₂ ◌+ℤ◌ (sum ∙ start) (m ∙ ap (λ b. b *ℤ n) (kept _ c.ranges.multiplier)) in
+    let whole = ap₂ ◌+ℤ◌ (sum ∙ start) (m ∙ ap (λ b. b *ℤ n) (wide_number_kept _ c.ranges.multiplier)) in
     c.in_err-add_atom.ensures.large (ap Err met) (subst (FitsSigned w128) (sym whole) (fits at can).1))
 
 -- all entries have been turned to
@@ -95,7 +95,7 @@ returns c =
     let at = (goal.at.returns c).In_ok-add_number in
     let f = numbers c.args.self in
     let g = numbers c.args.other.now in
-    let multiplier = kept _ c.ranges.multiplier in
+    let multiplier = wide_number_kept _ c.ranges.multiplier in
     let products = subst (λ l. ProductsFit (to_z w128 (of_z w128 c.args.multiplier)) l) (all c) c.loop-atom.invariant.products in
     let can = all_fit f _ _ _ _ c.args.other.now.constant _ (first_product at) c.in_ok-add_number.ensures.ok (whole c) products (first_fits at) c.in_ok-add_number.ensures.fits c.loop-atom.sum.fits in (
       subst (λ k. CanAddScaled f k g) multiplier can,

@@ -8,7 +8,7 @@ use Rattle.lc_linear.specs.LinForm.{numbers}
 use Rattle.lc_linear.proofs.Adding.{Summed, one_more_summed, next_sum, next_difference_fits, minus-sum, minus-zero, all_subtracted, fits_at}
 use Rattle.lc_linear.proofs.Distinct.{Turn, turn, turned, entry_found, one_more_entry}
 use Rattle.lc_linear.proofs.Faults.{passed_on}
-use Rattle.lc_linear.proofs.Numbers.{kept}
+use Rattle.lc_linear.proofs.Numbers.{wide_number_kept}
 use Rattle.lc_linear.proofs.form.LinForm.subtract.Goals as goal
 use Rattle.lc_linear.proofs.form.LinForm.subtract.Goals.{In-Some, In-None}
 
@@ -20,12 +20,12 @@ this c =
 
 -- its coefficient
 coefficient : (c : In-Some) → to_z w128 (of_z w128 c.in-Some.coefficient.now) ≡ c.in-Some.coefficient.now
-coefficient c = kept _ (subst (FitsSigned w128) (entry_found _ _ _ (this c)) (c.args.other.now.fits c.in-Some.atom.now))
+coefficient c = wide_number_kept _ (subst (FitsSigned w128) (entry_found _ _ _ (this c)) (c.args.other.now.fits c.in-Some.atom.now))
 
 pub returns-in_err-subtract_number : goal.returns-in_err-subtract_number
 returns-in_err-subtract_number c = passed_on _ _ c.from_residual.result _ c.from_residual.ensures.1 (λ met can.
     let constant : FitsSigned w128 c.args.other.now.constant = search rules in
-    c.in_err-subtract_number.ensures.large (ap Err met) (subst (λ n. FitsSigned w128 (numbers c.args.self None -ℤ n)) (sym (kept _ constant)) (can None)))
+    c.in_err-subtract_number.ensures.large (ap Err met) (subst (λ n. FitsSigned w128 (numbers c.args.self None -ℤ n)) (sym (wide_number_kept _ constant)) (can None)))
 
 pub loop-atom-preserved : goal.loop-atom-preserved
 loop-atom-preserved c =
@@ -53,14 +53,14 @@ whole c =
     (c.into_iter-atom-iterator.ensures.into_iter_gives ∙ c.iter-atom-items.ensures.rest) c.loop-atom.yielded_by c.next.ensures.steps c.in-None.is in
     let constant : FitsSigned w128 c.args.other.now.constant = search rules in
     all_subtracted (numbers c.args.self) (numbers c.subtract_number.new.self) (numbers c.loop-atom.rest) c.args.other.now.constant c.args.other.now.coefficients.entries
-    (λ p. c.in_ok-subtract_number.ensures.ok p ∙ ap (λ n. numbers c.args.self p -ℤ number_form n p) (kept _ constant))
+    (λ p. c.in_ok-subtract_number.ensures.ok p ∙ ap (λ n. numbers c.args.self p -ℤ number_form n p) (wide_number_kept _ constant))
     (subst (λ l. Summed (numbers c.subtract_number.new.self) (numbers c.loop-atom.rest) (negsuc 0) l) all c.loop-atom.invariant)
 
 pub returns : goal.returns
 returns c =
     let constant : FitsSigned w128 c.args.other.now.constant = search rules in (
       fits_at (subtracted (numbers c.args.self) (numbers c.args.other.now))
-          (subst (λ n. FitsSigned w128 (numbers c.args.self None -ℤ n)) (kept _ constant) c.in_ok-subtract_number.ensures.fits)
+          (subst (λ n. FitsSigned w128 (numbers c.args.self None -ℤ n)) (wide_number_kept _ constant) c.in_ok-subtract_number.ensures.fits)
           (λ a. subst (FitsSigned w128) (whole c (Some a)) (c.loop-atom.rest.fits a)),
       whole c,
     )

@@ -3,7 +3,7 @@ use Rattle.std.specs.Prelude.{◌-ℤ◌, FitsSigned}
 use Rattle.std.specs.Int.{w128}
 use Rattle.lc_linear.specs.LinForm.{numbers}
 use Rattle.lc_linear.proofs.Entries.{listed-insert_entry, AllFit-insert, replaced_subtracts}
-use Rattle.lc_linear.proofs.Numbers.{kept, kept_fits, difference_bits}
+use Rattle.lc_linear.proofs.Numbers.{wide_number_kept, kept_fits, difference_bits}
 use Rattle.lc_linear.proofs.form.LinForm.subtract_atom.Goals as goal
 
 pub invariant_of-self : goal.invariant_of-self
@@ -17,4 +17,4 @@ returns-clause-ok c = λ p.
     let before = subst (FitsSigned w128) (sym c.coefficient.ensures) (c.args.self.now.fits c.args.atom) in
     let is = d.1 ∙ difference_bits c.coefficient.result c.args.count before c.ranges.count ∙ ap (λ n. n -ℤ c.args.count) c.coefficient.ensures in
     listed-insert_entry c.args.self.now.constant _ _ _ _ c.in_ok-insert.ensures.entries p ∙
-    replaced_subtracts (numbers c.args.self.now) c.args.atom _ c.args.count (kept _ (subst (FitsSigned w128) (sym d.1) d.0) ∙ is) p
+    replaced_subtracts (numbers c.args.self.now) c.args.atom _ c.args.count (wide_number_kept _ (subst (FitsSigned w128) (sym d.1) d.0) ∙ is) p

@@ -12,7 +12,7 @@ use Rattle.lc_machine.specs.Machine.{object_in, world_of}
 use Rattle.lc_machine.specs.View.{client_of, clients_of}
 use Rattle.lc_machine.specs.declared.client.Client.{Client}
 use Rattle.lc_machine.specs.declared.client.Client.TheVariants as C
-use Rattle.lc_machine.proofs.Promised.{begun}
+use Rattle.lc_machine.proofs.Promised.{entry_is_placed}
 use Rattle.lc_machine.proofs.Worlds.{placed_set, world_set}
 use Rattle.lc_machine.proofs.bare.Bare.invoke.Goals as goal
 
@@ -60,7 +60,7 @@ invariant_of-self c =
       columns = bare.columns;
       counted = length-set bare.clients.items c.args.client k ∙ bare.counted;
       placed = placed_set (object_in bare) bare.clients.items c.args.client k bare.placed
-          (begun (object_in bare) bare.object.now.well_formed c.args.op.0 bare.count c.args.client (operation_of o) c.args.numbers.now c.in_ok-variables.variables.values.items
+          (entry_is_placed (object_in bare) bare.object.now.well_formed c.args.op.0 bare.count c.args.client (operation_of o) c.args.numbers.now c.in_ok-variables.variables.values.items
           c.in-Some.ensures count c.in_ok-variables.ensures);
     }
 

@@ -5,7 +5,7 @@ use Rattle.lc_hist.proofs.Tables.{element_at}
 use Rattle.lc_order.specs.Rosters.{calls_in, returns_in, calls_of, returns_of}
 use Rattle.lc_order.specs.declared.roster.Line.{Line}
 use Rattle.lc_order.specs.declared.roster.Roster.{Roster}
-use Rattle.lc_order.proofs.Rosters.{noted, noted-told}
+use Rattle.lc_order.proofs.Rosters.{roster_line_replaced, noted-told}
 use Rattle.lc_order.proofs.roster.Roster.note.Goals as goal
 use Rattle.lc_order.proofs.roster.Roster.note.Goals.{In_ok-note}
 
@@ -36,7 +36,7 @@ pub returns-clause-roster : goal.returns-clause-roster
 returns-clause-roster c =
     let old = c.line_for.new.self in
     let new : Roster = record { lines = with_item old.lines c.in_ok-line.line c.note.new.self; index = old.index } in
-    noted old new c.in_ok-line.line c.index_mut.result.now c.note.new.self c.in_ok-line.ensures.roster (here c) c.in_ok-note.ensures.client refl refl
+    roster_line_replaced old new c.in_ok-line.line c.index_mut.result.now c.note.new.self c.in_ok-line.ensures.roster (here c) c.in_ok-note.ensures.client refl refl
 
 pub returns-clause-calls : goal.returns-clause-calls
 returns-clause-calls c k =

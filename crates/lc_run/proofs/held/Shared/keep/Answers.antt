@@ -7,7 +7,7 @@ use Rattle.lc_sound.specs.Instrumented.{Instrumented}
 use Rattle.lc_check.specs.VerdictView.{development_in}
 use Rattle.lc_steps.specs.StepView.{what_of, world_in}
 use Rattle.lc_run.specs.declared.label.Label.{Label}
-use Rattle.lc_run.proofs.Standing.{keeps, label-is, labels-grow, next-world, placed-set}
+use Rattle.lc_run.proofs.Standing.{step_keeps_run, label-is, labels-grow, next-world, placed-set}
 use Rattle.lc_run.proofs.held.Shared.keep.Goals as goal
 
 pub invariant_of-self-2-clause-run : goal.invariant_of-self-2-clause-run
@@ -17,7 +17,7 @@ invariant_of-self-2-clause-run g c =
     let made = c.into_parts-what.result in
     let the_label : Label = record { client = x; what = made.0; marks = made.1 } in
     let items : c.push_reserved.new.self.items ≡ s.labels.items ++ the_label ∷ [] = search rules in
-    keeps c.runs_stand_over.ensures.extends (development_in s.accepted.value) s.clients s.labels.items c.push_reserved.new.self.items s.draft c.save.new.self s.stands.items the_label x c.args.step made.2
+    step_keeps_run c.runs_stand_over.ensures.extends (development_in s.accepted.value) s.clients s.labels.items c.push_reserved.new.self.items s.draft c.save.new.self s.stands.items the_label x c.args.step made.2
     items (label-is the_label x c.args.step refl c.into_parts-what.ensures.what c.into_parts-what.ensures.marks) c.save.ensures.saved c.into_parts-what.ensures.client s.run c.requires.step
 
 pub invariant_of-self-2-clause-placed : goal.invariant_of-self-2-clause-placed

@@ -4,7 +4,7 @@ use Rattle.lc_outline.specs.Development.{start_columns}
 use Rattle.lc_sound.specs.Instrumented.{start_world}
 use Rattle.lc_check.specs.VerdictView.{development_in}
 use Rattle.lc_steps.specs.StepView.{world_in}
-use Rattle.lc_run.proofs.Standing.{starts, idle-count, idle-placed}
+use Rattle.lc_run.proofs.Standing.{start_is_run, idle-count, idle-placed}
 use Rattle.lc_run.proofs.held.Shared.new.Goals as goal
 
 pub invariant_of-shared-clause-run : goal.invariant_of-shared-clause-run
@@ -14,7 +14,7 @@ invariant_of-shared-clause-run g c =
     let w = world_in c.in_ok-draft.draft c.in_ok-stands.stands.items in
     let is : w ≡ start_world D n =
     λ i. let u : World = record { columns = (c.in_ok-draft.ensures.saved ∙ ap (λ a. start_columns (development_in a)) c.deref.ensures) i; clients = c.in_ok-stands.ensures i } in u in
-    starts D n c.new-labels.result.items w c.new-labels.ensures.items is
+    start_is_run D n c.new-labels.result.items w c.new-labels.ensures.items is
 
 pub invariant_of-shared-clause-count : goal.invariant_of-shared-clause-count
 invariant_of-shared-clause-count g c = idle-count c.in_ok-stands.stands.items c.args.clients c.in_ok-stands.ensures

@@ -9,7 +9,7 @@ use Rattle.lc_run.specs.LabelView.{label_of, labels_of}
 use Rattle.lc_run.specs.Labels.{is_unfinished}
 use Rattle.lc_run.specs.Locked.{development_held, labels_held, world_held, client_in, labels_made}
 use Rattle.lc_run.specs.Taken.{IsUntold, IsStepFault, MayStep, StandsIn}
-use Rattle.lc_run.proofs.Growing.{unstepped, as-step, if-done, handed-on, fault-as}
+use Rattle.lc_run.proofs.Growing.{step_is_faulted, as-step, if-done, handed-on, fault-as}
 use Rattle.lc_run.proofs.Standing.{client-below}
 use Rattle.lc_run.proofs.held.Shared.told.Goals as goal
 
@@ -21,7 +21,7 @@ returns-in_err-may_step-clause-fault g c =
     let goes : is_unfinished (labels_made t) ≡ true = sym (c.is_unfinished.ensures ∙ ap (λ ls. is_unfinished (labels_of ls)) c.deref.ensures.value) ∙ c.if-not-is_unfinished.false in
     let count : c.len.result ≡ length (labels_held s) = c.len.ensures ∙ (s.labels.ok.0 ∙ sym (length-map s.labels.items label_of)) in
     handed-on (IsStepFault (development_held s) (world_held s) (labels_held s) (client_in t) (labels_made t)) c.from_residual.result fault c.from_residual.ensures.1
-    (unstepped (development_held s) (world_held s) (labels_held s) (labels_made t) (client_in t) c.len.result fault count goes
+    (step_is_faulted (development_held s) (world_held s) (labels_held s) (labels_made t) (client_in t) c.len.result fault count goes
     (subst (λ cs. MayStep (clients_of cs) t.client c.len.result (Err fault)) c.deref-2.ensures.value c.in_err-may_step.ensures))
 
 pub returns-clause-there : goal.returns-clause-there

@@ -2,7 +2,7 @@ use Rattle.std.proofs.Common.{ℕ, ◌-◌, ◌<◌, List, ◌++◌, length, tak
 use Rattle.lc_sexp.specs.Text.{uncommented}
 use Rattle.lc_sexp.specs.CutFiles.{ends_in_comment}
 use Rattle.lc_sexp.specs.Progress.{told, fault_from}
-use Rattle.lc_sexp.proofs.Runs.{parted, parted_last, taken_on, comment_on, tail_of, all_taken, cut_short, differ, fault_full}
+use Rattle.lc_sexp.proofs.Runs.{bytes_parted_at, parted_last, taken_on, comment_on, tail_of, all_taken, cut_short, eq_false_differ, fault_full}
 use Rattle.lc_sexp.proofs.machine.Machine.push_all.Goals as goal
 
 pub returns-then-count-eq0-clause-wrong : goal.returns-then-count-eq0-clause-wrong
@@ -11,7 +11,7 @@ returns-then-count-eq0-clause-wrong c = λ stopped rest.
     let within : List ℕ = c.within_limit-within.result.now in
     let front = c.within_limit-within.ensures.front in
     let at : ℕ = c.loop-at.at in
-    ap (λ x. fault_from m.offset (vec_len m.holes) (uncommented m.in_comment x)) (parted_last c.args.bytes.now within front.0 rest front.1 ∙ parted at within (front.0 ++ rest))
+    ap (λ x. fault_from m.offset (vec_len m.holes) (uncommented m.in_comment x)) (parted_last c.args.bytes.now within front.0 rest front.1 ∙ bytes_parted_at at within (front.0 ++ rest))
     ∙ sym (c.loop-at.invariant.fault (take (length within - at) (drop at within) ++ (front.0 ++ rest)))
     ∙ c.in_ok-count.ensures.wrong c.if-count-eq0.true (front.0 ++ rest)
 
@@ -44,7 +44,7 @@ returns-clause-wrong c = λ cut rest.
     let within : List ℕ = c.within_limit-within.result.now in
     let front = c.within_limit-within.ensures.front in
     let at : ℕ = c.loop-at.at in
-    let short = cut_short c.args.bytes.now within front.0 front.1 (differ _ _ cut) in
+    let short = cut_short c.args.bytes.now within front.0 front.1 (eq_false_differ _ _ cut) in
     let full = c.within_limit-within.ensures.full short.1 in
     ap (λ x. fault_from m.offset (vec_len m.holes) (uncommented m.in_comment x))
     (parted_last c.args.bytes.now within front.0 rest front.1 ∙ ap (λ x. x ++ (front.0 ++ rest)) (sym (all_taken at within c.loop-at-test.false)))

@@ -3,7 +3,7 @@ use Rattle.std.proofs.lemmas.List.{take_all}
 use Rattle.std.proofs.lemmas.Result.{IfOk-weaker}
 use Rattle.lc_table.specs.Nodes.{column as column_part}
 use Rattle.lc_table.specs.Put.{entry_of}
-use Rattle.lc_table.proofs.Entries.{IsAbsent, missing, entry_found, absent_step}
+use Rattle.lc_table.proofs.Entries.{IsAbsent, column_at_absent, entry_found, absent_step}
 use Rattle.lc_table.proofs.table.Terms.enter_stored.Goals as goal
 
 pub returns-then-eq-clause-id : goal.returns-then-eq-clause-id
@@ -20,4 +20,4 @@ loop-entry-preserved c = (
 pub returns-clause-id : goal.returns-clause-id
 returns-clause-id c =
     let absent = subst (λ ps. IsAbsent c.args.column.0 (map entry_of ps)) (take_all c.loop-entry.entry-index c.args.columns.now c.loop-entry-test.false) c.loop-entry.invariant.1 in
-    IfOk-weaker c.base.result _ _ (λ k h. h ∙ ap (λ x. Some (column_part x)) (sym (missing c.args.column.0 (map entry_of c.args.columns.now) absent))) c.base.ensures.id
+    IfOk-weaker c.base.result _ _ (λ k h. h ∙ ap (λ x. Some (column_part x)) (sym (column_at_absent c.args.column.0 (map entry_of c.args.columns.now) absent))) c.base.ensures.id
