@@ -1,6 +1,7 @@
-"""The histories that bench/run measures: many calls by many clients, each with an order that linearizes it.
+"""The histories that bench/run measures: many calls by many clients.
 
-Each function of HISTORIES answers a specification and a history, as bytes.
+Each function of HISTORIES answers a specification and a history with an order that linearizes it, as bytes; each of RECORDED a
+specification and a history without an order.
 """
 
 import json
@@ -111,3 +112,26 @@ def bank_64():
 
 
 HISTORIES = {it.__name__: it for it in (counter_64, counter_100000, queue_64, bank_64)}
+
+
+def recorded(thing, calls, clients, last=None):
+    """The events alone of such a history; with another reply of the last return, if one is given."""
+    events = json.loads(history(thing, calls, clients))["events"]
+    if last is not None:
+        events[-1][2] = last
+    return json.dumps({"events": events}, separators=(",", ":")).encode()
+
+
+def order_counter_8():
+    return COUNTER.encode(), recorded(Counter(), 50_000, 8)
+
+
+def order_wrong_8():
+    return COUNTER.encode(), recorded(Counter(), 50_000, 8, [-1])
+
+
+def order_bank_4():
+    return BANK.encode(), recorded(Bank(), 50_000, 4)
+
+
+RECORDED = {it.__name__: it for it in (order_counter_8, order_wrong_8, order_bank_4)}

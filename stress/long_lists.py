@@ -97,7 +97,7 @@ def plan(text):
 
 
 def judged(text):
-    return ["judge DEV HISTORY", "draw DEV HISTORY"], {"DEV": development()[1]["DEV"], "HISTORY": text.encode()}
+    return ["judge DEV HISTORY", "draw DEV HISTORY", "order DEV HISTORY"], {"DEV": development()[1]["DEV"], "HISTORY": text.encode()}
 
 
 def history(events="", order=""):

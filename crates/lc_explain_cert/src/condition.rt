@@ -1,5 +1,6 @@
 //! What a condition asks, in words.
 use crate::naming::{action_at_edge, action_name, conjunct_name, next_name, point_name};
+use crate::path::push_path;
 use lc_base::OutOfMemory;
 use lc_cond::{Condition, Kind, Passage, Place, Which};
 use lc_naming::{column_name, edge_word};
@@ -136,6 +137,7 @@ pub(crate) fn condition_words(
         write!(text, "at {point}")?;
     }
     push_passage(&mut text, parts, place)?;
+    push_path(&mut text, development, place)?;
     if !text.is_empty() {
         text.push_str(": ")?;
     }

@@ -1,18 +1,17 @@
 //! The state in which the search for a proof of a goal ended.
 ghost use Rattle.lc_table.specs.Tables.{IsFormula, AreFormulas};
 
+use crate::after::push_decisive;
 use crate::names::Names;
 use lc_base::OutOfMemory;
+use lc_cond::Kind;
 use lc_failing::{Failing, Numbered, Told, content_words, tell, words_of};
 use lc_kernel::Goal;
-use lc_search::{Counted, CounterModel, End, search};
+use lc_search::{Counted, CounterModel};
 use lc_table::Terms;
 use lc_term::{ColExpr, Term};
 use lc_text::write_term;
 use std::alloc::Global;
-
-/// How many steps are tried.
-const BUDGET: u64 = 1_000_000;
 
 /// The numbers that are whole and fit 64 bits.
 fn whole_numbers(alloc: Global, numbers: &[Counted]) -> Result<Vec<Numbered>, OutOfMemory> {
@@ -44,7 +43,7 @@ fn push_counted(
 }
 
 /// A term and its number, in a line.
-fn push_number(
+pub(crate) fn push_number(
     text: &mut String,
     names: &Names<'_>,
     term: &Term,
@@ -81,11 +80,13 @@ fn push_told(
     Ok(())
 }
 
-/// The numbers of a model of a goal: as a state, if the goal fails there, and else as the search reported them.
-fn model_text(
+/// The numbers of a model of the goal of a condition of this kind: as a state, with what decides there that the goal fails, if it does; else
+/// as the search reported them.
+pub(crate) fn model_text(
     alloc: Global,
     names: &Names<'_>,
     terms: &Terms,
+    kind: Kind,
     goal: &Goal,
     model: &CounterModel,
 ) -> Result<String, OutOfMemory>
@@ -111,6 +112,7 @@ fn model_text(
     match told.failing {
         Failing::Fails | Failing::FailsButForQuantifiers => {
             push_told(alloc, &mut text, names, goal.vars, &told)?;
+            push_decisive(alloc, &mut text, names, kind, &told)?;
         }
         Failing::Unknown => {
             for counted in &model.numbers {
@@ -119,20 +121,4 @@ fn model_text(
         }
     }
     Ok(text)
-}
-
-/// The state in which a search for a proof of a goal ends, if it comes to its end without one.
-pub(crate) fn failing_text(
-    alloc: Global,
-    names: &Names<'_>,
-    terms: &Terms,
-    goal: &Goal,
-) -> Result<Option<String>, OutOfMemory>
-    requires hypotheses { AreFormulas terms.now goal.now.hypotheses }
-    requires goal { IsFormula terms.now goal.now.goal }
-{
-    match search(alloc, terms, goal, &[], &[], BUDGET)?.end {
-        End::NotFound(model) => Ok(Some(model_text(alloc, names, terms, goal, &model)?)),
-        End::Found(_) | End::Spent(_) | End::Large => Ok(None),
-    }
 }

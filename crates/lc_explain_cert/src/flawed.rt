@@ -50,13 +50,15 @@ impl Flawed {
         }
     }
 
-    /// The place of the step in the proof of a condition, or in the only proof of a file; else the first form.
-    pub(crate) fn place(self, bytes: &[u8], condition: Option<u64>) -> Option<Place> {
-        let proof = proof_place(bytes, condition);
-        proof
-            .and_then(|proof| step_place(bytes, proof, self.step))
-            .or(proof)
-            .or(item_place(bytes, 0))
+    /// The place of the step in the only proof of a file; else that of the proof, or of the first form.
+    pub(crate) fn place(self, bytes: &[u8]) -> Option<Place> {
+        let Some(proof) = proof_place(bytes, None) else {
+            return item_place(bytes, 0);
+        };
+        match step_place(bytes, proof, self.step) {
+            Some(step) => Some(step),
+            None => Some(proof),
+        }
     }
 }
 

@@ -94,7 +94,7 @@ pub fn proof_explanation(
         Some(reason) => Sentence::Bad { step, reason },
         None => Sentence::Large { step },
     };
-    let place = flawed.place(bytes, None);
+    let place = flawed.place(bytes);
     let lines = state_of(alloc, bytes, flawed)?;
     said(alloc, path, bytes, place, sentence, lines)
 }

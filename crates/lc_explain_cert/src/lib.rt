@@ -2,19 +2,29 @@
 //! there.
 #![tactic(auto)]
 
+mod after;
 mod certificate;
 mod condition;
 mod depth;
+mod ending;
 mod failing;
 mod flawed;
 mod formula;
+mod linting;
+mod misses;
 mod names;
 mod naming;
+mod path;
 mod reason;
 mod sentence;
+mod source;
 mod state;
 mod unproved;
 
-pub use certificate::{certificate_explanation, unfound_explanation};
+pub use certificate::{certificate_explanation, condition_explanation, unfound_explanation};
+pub use ending::Ending;
 pub use formula::proof_explanation;
+pub use linting::lints;
+pub use misses::{Missed, unfound_conditions};
+pub use source::Source;
 pub use unproved::unproved_conditions;

@@ -1,5 +1,5 @@
 //! The names by which conditions are reported.
-use lc_base::PointId;
+use lc_base::{OpId, PointId};
 use lc_cond::{Passage, Place, on_at};
 use lc_object::{EdgeKind, Instr, Point};
 use lc_outline::{Development, Parts};
@@ -13,6 +13,14 @@ pub(crate) fn point_at(parts: &Parts, point: PointId) -> Option<&Point> {
 pub(crate) fn point_name(parts: &Parts, point: PointId) -> &str {
     match point_at(parts, point) {
         Some(point) => point.name.as_str(),
+        None => "",
+    }
+}
+
+/// The name of an operation.
+pub(crate) fn operation_name(parts: &Parts, operation: OpId) -> &str {
+    match parts.object.parts().operations.get(operation.0 as usize) {
+        Some(operation) => operation.name.as_str(),
         None => "",
     }
 }
@@ -36,8 +44,17 @@ pub(crate) fn conjunct_name(parts: &Parts, place: usize) -> &str {
     }
 }
 
+/// Whether an instruction has an edge of this kind.
+pub(crate) fn has_edge(instruction: &Instr, edge: EdgeKind) -> bool {
+    let is_branching = matches!(instruction, Instr::Cas { .. } | Instr::If { .. });
+    match edge {
+        EdgeKind::Next => !is_branching,
+        EdgeKind::Then | EdgeKind::Else => is_branching,
+    }
+}
+
 /// The point to which an instruction goes by an edge; none if the call returns.
-fn target_of(instruction: &Instr, edge: EdgeKind) -> Option<PointId> {
+pub(crate) fn target_of(instruction: &Instr, edge: EdgeKind) -> Option<PointId> {
     match (instruction, edge) {
         (Instr::Load { next, .. } | Instr::Store { next, .. }, _) => Some(*next),
         (Instr::Set { next, .. } | Instr::Faa { next, .. }, _) => Some(*next),

@@ -119,6 +119,22 @@ fn push_all(
     Ok(())
 }
 
+/// What is said where most of the lines that may be said are: the certificate is that of another version of the development.
+const OF_ANOTHER: &str =
+    "most of its proofs do not hold: if it is the certificate of another version of the development, \
+    `lincheck carry OLD CERT NEW` takes over the proofs that still serve\n";
+
+/// How many lines a text has.
+fn line_count(text: &str) -> u64 {
+    let mut count = 0u64;
+    for byte in text.as_bytes() {
+        if *byte == b'\n' {
+            count = count.saturating_add(1);
+        }
+    }
+    count
+}
+
 /// Says of each condition of a development that is not proved by a certificate file why it is not, and of each proof for a number that
 /// no condition has; a line each. Nothing is said of a file that is no certificate.
 pub fn unproved_conditions(
@@ -140,6 +156,9 @@ pub fn unproved_conditions(
         if count <= entry.number {
             push_sentence(&mut text, Sentence::Extra(entry.number))?;
         }
+    }
+    if count < line_count(&text).saturating_mul(2) {
+        text.push_str(OF_ANOTHER)?;
     }
     Ok(text)
 }

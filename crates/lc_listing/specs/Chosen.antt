@@ -1,9 +1,11 @@
 -- The conditions that are chosen by words of their lines.
-use Rattle.std.specs.Prelude.{ℕ, suc, Bool, true, ◌&&◌, List, [], ◌∷◌, ◌++◌, Option, Some, None, if◌then◌else◌}
+use Rattle.std.specs.Prelude.{ℕ, suc, Bool, true, codes, map, ◌&&◌, ◌||◌, List, [], ◌∷◌, ◌++◌, Option, Some, None, if◌then◌else◌}
+use Rattle.std.specs.List.{list_any}
 use Rattle.std.specs.Str.{bytes_eq}
 use Rattle.lc_cond.specs.Conditions.{Condition, conditions}
 use Rattle.lc_cond_text.specs.ConditionText.{condition_text, kind_word, or_hyphen, point_names, total_line}
 use Rattle.lc_naming.specs.ColumnNames.{name_at}
+use Rattle.lc_object.specs.Syntax as O
 use Rattle.lc_outline.specs.Development.{Development}
 
 -- the word is the one that is asked for, if one is
@@ -29,3 +31,10 @@ chosen_count point kind D (c ∷ cs) = if is_chosen point kind D c then suc (cho
 -- a line for each condition that is chosen, and that of how many there are
 abbrev pub chosen_text : (point kind : Option (List ℕ)) → Development → List ℕ
 chosen_text point kind D = chosen_from point kind D 0 (conditions D) ++ total_line (chosen_count point kind D (conditions D))
+
+abbrev pub names_of : List O.Point → List (List ℕ)
+names_of points = map (λ (p : O.Point). p.name) points
+
+-- lines may have the word as their POINT: it is the name of a point, or the hyphen of conditions at none
+abbrev pub is_point_word : List ℕ → Development → Bool
+is_point_word word D = bytes_eq word (codes "-") || list_any (λ name. bytes_eq name word) (names_of D.object.points)

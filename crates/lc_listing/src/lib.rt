@@ -7,3 +7,4 @@ mod words;
 
 pub use chosen::chosen_conditions;
 pub use shown::condition_over_lines;
+pub use words::is_point_word;

@@ -12,8 +12,8 @@ use Rattle.lc_base.specs.NameText.{is_name}
 use Rattle.lc_base.specs.declared.name.Name.{Name}
 use Rattle.lc_lib_texts.specs.Names.{lib_named}
 use Rattle.lc_lib_texts.specs.declared.library.Lib.{Lib}
-use Rattle.lc_words.specs.Reading.{beginning_task, begun, is_set, library_task, listed, listing_task, one_file_task, proving_task, running_task, showing_task, text_for, two_file_task, carrying_task}
-use Rattle.lc_words.specs.Tasks.{BeginDevelopment, PrintLibrary, RunPlan, Task, is_development_name, proving, showing, carrying}
+use Rattle.lc_words.specs.Reading.{beginning_task, begun, is_set, library_task, listed, listing_task, number_given, one_file_task, ordering, ordering_task, proving_task, running_task, showing_task, text_for, two_file_task, carrying_task}
+use Rattle.lc_words.specs.Tasks.{BeginDevelopment, FindOrder, PrintLibrary, RunPlan, Task, is_development_name, proving, showing, carrying}
 use Rattle.lc_words.specs.declared.request.LibraryText.{LibraryText}
 
 -- the task of one path, and of two, if clap finds them
@@ -28,6 +28,12 @@ two_found task name f development other is is' =
 -- without a development nothing is asked for
 pub two_unfound : (task : List ℕ → List ℕ → Task) (name : Text) (f : Found) → None ≡ first_value f (codes "DEV") → None ≡ two_file_task task name (rows_of f)
 two_unfound task name f is = ap (λ x. option_and_then (λ d. option_map (task d) (first_of name (rows_of f))) x) (is ∙ first_value-rows f (codes "DEV"))
+
+-- an order is looked for as the options say
+pub ordering_found : (f : Found) (development history : Text) (check : Bool) (budget : Option ℕ) → Some development ≡ first_value f (codes "DEV") → Some history ≡ first_value f (codes "HISTORY")
+    → check ≡ is_set (codes "check") (rows_of f) → budget ≡ number_given (codes "budget") (rows_of f) → Some (FindOrder development history check budget) ≡ ordering_task (rows_of f)
+ordering_found f development history check budget is is' set given =
+    ap₂ (λ x y. Some (FindOrder development history x y)) set given ∙ two_found (ordering (rows_of f)) (codes "HISTORY") f (Some development) (Some history) is is'
 
 -- the same for a development that is to be proved, with hints or without
 pub proving_found : (f : Found) (development : Text) (hints : Option Text) → Some development ≡ first_value f (codes "DEV") → hints ≡ first_value f (codes "hints")

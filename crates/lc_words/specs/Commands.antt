@@ -25,19 +25,19 @@ workers_rule = record (option_rule (codes "workers")) { parser = Some (Unsigned 
 abbrev pub flag_rule : Text → Rule
 flag_rule name = record (new_rule name) { long = Some name; action = Some SetTrue }
 
--- a command with the option by which a refusal is explained
+-- a command with the options by which a refusal is not explained on a terminal, and is explained
 abbrev pub explained : App → App
-explained app = with_rule app (flag_rule (codes "explain"))
+explained app = with_rule (with_rule app (flag_rule (codes "quiet"))) (flag_rule (codes "explain"))
 
--- `formula FILE [--explain]`
+-- `formula FILE [--quiet] [--explain]`
 abbrev pub formula_app : App
 formula_app = explained (with_rule (new_app (codes "formula")) (file_rule (codes "FILE")))
 
--- `judge DEV HISTORY [--explain]`
+-- `judge DEV HISTORY [--quiet] [--explain]`
 abbrev pub judge_app : App
 judge_app = explained (with_rule (with_rule (new_app (codes "judge")) (file_rule (codes "DEV"))) (file_rule (codes "HISTORY")))
 
--- `show DEV [--lines] [--explain]`
+-- `show DEV [--lines] [--quiet] [--explain]`
 abbrev pub show_app : App
 show_app = explained (with_rule (with_rule (new_app (codes "show")) (file_rule (codes "DEV"))) (flag_rule (codes "lines")))
 
@@ -45,7 +45,7 @@ show_app = explained (with_rule (with_rule (new_app (codes "show")) (file_rule (
 abbrev pub listing_app : App
 listing_app = with_rule (with_rule (new_app (codes "conditions")) (file_rule (codes "DEV"))) (option_rule (codes "at"))
 
--- `conditions DEV [--at K] [--only POINT] [--kind KIND] [--explain]`
+-- `conditions DEV [--at K] [--only POINT] [--kind KIND] [--quiet] [--explain]`
 abbrev pub conditions_app : App
 conditions_app = explained (with_rule (with_rule listing_app (option_rule (codes "only"))) (option_rule (codes "kind")))
 
@@ -57,7 +57,7 @@ check_files_app = with_rule (with_rule (new_app (codes "check")) (file_rule (cod
 abbrev pub check_workers_app : App
 check_workers_app = with_rule check_files_app workers_rule
 
--- `check DEV CERT [--workers N] [--all] [--progress] [--explain]`
+-- `check DEV CERT [--workers N] [--all] [--progress] [--quiet] [--explain]`
 abbrev pub check_app : App
 check_app = explained (with_rule (with_rule check_workers_app (flag_rule (codes "all"))) (flag_rule (codes "progress")))
 
@@ -65,15 +65,15 @@ check_app = explained (with_rule (with_rule check_workers_app (flag_rule (codes 
 abbrev pub prove_files_app : App
 prove_files_app = with_rule (with_rule (new_app (codes "prove")) (file_rule (codes "DEV"))) (option_rule (codes "hints"))
 
--- `prove DEV [--hints FILE] [--progress] [--explain]`
+-- `prove DEV [--hints FILE] [--all] [--progress] [--quiet] [--explain]`
 abbrev pub prove_app : App
-prove_app = explained (with_rule prove_files_app (flag_rule (codes "progress")))
+prove_app = explained (with_rule (with_rule prove_files_app (flag_rule (codes "all"))) (flag_rule (codes "progress")))
 
 -- `carry OLD CERT NEW`
 abbrev pub carry_files_app : App
 carry_files_app = with_rule (with_rule (with_rule (new_app (codes "carry")) (file_rule (codes "OLD"))) (file_rule (codes "CERT"))) (file_rule (codes "NEW"))
 
--- `carry OLD CERT NEW [--hints FILE] [--progress] [--explain]`
+-- `carry OLD CERT NEW [--hints FILE] [--progress] [--quiet] [--explain]`
 abbrev pub carry_app : App
 carry_app = explained (with_rule (with_rule carry_files_app (option_rule (codes "hints"))) (flag_rule (codes "progress")))
 
@@ -81,7 +81,7 @@ carry_app = explained (with_rule (with_rule carry_files_app (option_rule (codes 
 abbrev pub run_files_app : App
 run_files_app = with_rule (with_rule (with_rule (new_app (codes "run")) (file_rule (codes "DEV"))) (file_rule (codes "CERT"))) (file_rule (codes "PLAN"))
 
--- `run DEV CERT PLAN [--explain]`
+-- `run DEV CERT PLAN [--quiet] [--explain]`
 abbrev pub run_app : App
 run_app = explained run_files_app
 
@@ -89,13 +89,25 @@ run_app = explained run_files_app
 abbrev pub library_app : App
 library_app = with_rule (with_rule (with_rule (new_app (codes "library")) (object_rule (codes "NAME"))) (flag_rule (codes "certificate"))) (flag_rule (codes "hints"))
 
--- `draw DEV HISTORY [--explain]`
+-- `draw DEV HISTORY [--quiet] [--explain]`
 abbrev pub draw_app : App
 draw_app = explained (with_rule (with_rule (new_app (codes "draw")) (file_rule (codes "DEV"))) (file_rule (codes "HISTORY")))
 
 -- `new NAME`
 abbrev pub begin_app : App
 begin_app = with_rule (new_app (codes "new")) (object_rule (codes "NAME"))
+
+-- an option with a number of 64 bits
+abbrev pub number_rule : Text → Rule
+number_rule name = record (option_rule name) { parser = Some (Unsigned 0 18446744073709551615) }
+
+-- `order DEV HISTORY [--check]`
+abbrev pub order_word_app : App
+order_word_app = with_rule (with_rule (with_rule (new_app (codes "order")) (file_rule (codes "DEV"))) (file_rule (codes "HISTORY"))) (flag_rule (codes "check"))
+
+-- `order DEV HISTORY [--check] [--budget N] [--quiet] [--explain]`
+abbrev pub order_app : App
+order_app = explained (with_rule order_word_app (number_rule (codes "budget")))
 
 -- a command of this name that has a version and needs a subcommand
 abbrev pub needs_subcommand : Text → App
@@ -123,4 +135,4 @@ drawing_app = with_subcommand (with_subcommand carrying_app draw_app.top) begin_
 
 -- the program and its commands
 abbrev pub program_app : App
-program_app = with_subcommand drawing_app run_app.top
+program_app = with_subcommand (with_subcommand drawing_app run_app.top) order_app.top

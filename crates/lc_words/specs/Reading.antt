@@ -9,7 +9,7 @@ use Rattle.clap.specs.declared.error.kind.ErrorKind.{ErrorKind}
 use Rattle.clap.specs.declared.error.kind.ErrorKind.TheVariants.{DisplayHelp, DisplayVersion}
 use Rattle.lc_lib_texts.specs.Names.{lib_named}
 use Rattle.lc_words.specs.Commands.{program_app}
-use Rattle.lc_words.specs.Tasks.{BeginDevelopment, CheckByWorkers, CheckCertificate, CheckFormula, DrawHistory, JudgeHistory, PrintLibrary, RunPlan, ShowCondition, Task, is_development_name, listing, proving, showing, task_of, carrying}
+use Rattle.lc_words.specs.Tasks.{BeginDevelopment, CheckByWorkers, CheckCertificate, CheckFormula, DrawHistory, FindOrder, JudgeHistory, PrintLibrary, RunPlan, ShowCondition, Task, is_development_name, listing, proving, showing, task_of, carrying}
 use Rattle.lc_words.specs.declared.request.LibraryText.{LibraryText}
 use Rattle.lc_words.specs.declared.request.LibraryText.TheVariants.{Development, Certificate, Hints}
 use Rattle.lc_words.specs.declared.request.Request.{Request}
@@ -51,9 +51,9 @@ showing_task rows = option_map (λ development. showing development (is_set (cod
 unfoldable pub number_in : Text → Option ℕ
 number_in text = if is_unsigned_in 0 18446744073709551615 text then Some (digits_value 10 (without_leading_plus text)) else None
 
--- the number of workers that is given, if one is
-abbrev pub workers_given : List Row → Option ℕ
-workers_given rows = option_and_then number_in (first_of (codes "workers") rows)
+-- the number that is given for an option, if one is
+abbrev pub number_given : Text → List Row → Option ℕ
+number_given name rows = option_and_then number_in (first_of name rows)
 
 -- the task of checking a certificate, by workers or with a word of how far it is, which exclude each other
 abbrev pub checked : List ℕ → List ℕ → (workers : Option ℕ) (progress : Bool) → Option Task
@@ -63,7 +63,7 @@ checked development certificate (Some workers) true = None
 
 abbrev pub checking_task : List Row → Option Task
 checking_task rows =
-    option_and_then (λ development. option_and_then (λ certificate. checked development certificate (workers_given rows) (is_set (codes "progress") rows)) (first_of (codes "CERT") rows)) (first_of (codes "DEV") rows)
+    option_and_then (λ development. option_and_then (λ certificate. checked development certificate (number_given (codes "workers") rows) (is_set (codes "progress") rows)) (first_of (codes "CERT") rows)) (first_of (codes "DEV") rows)
 
 -- the task of showing the condition of the number that is given, or of listing those of a point and of a kind, which exclude a number
 abbrev pub listed : List ℕ → (number point kind : Option Text) → Option Task
@@ -100,6 +100,13 @@ library_task rows =
     option_and_then (λ lib. option_map (PrintLibrary lib) (text_for (is_set (codes "certificate") rows) (is_set (codes "hints") rows)))
     (option_and_then lib_named (first_of (codes "NAME") rows))
 
+-- the task of finding an order with these arguments
+abbrev pub ordering : List Row → List ℕ → List ℕ → Task
+ordering rows development history = FindOrder development history (is_set (codes "check") rows) (number_given (codes "budget") rows)
+
+abbrev pub ordering_task : List Row → Option Task
+ordering_task rows = two_file_task (ordering rows) (codes "HISTORY") rows
+
 -- the task of a command with its arguments
 abbrev pub task_in_command : Text × List Row → Option Task
 task_in_command c =
@@ -123,7 +130,9 @@ task_in_command c =
     then two_file_task DrawHistory (codes "HISTORY") c.1
     else (if bytes_eq c.0 (codes "new")
     then beginning_task c.1
-    else (if bytes_eq c.0 (codes "run") then running_task c.1 else None))))))))))
+    else (if bytes_eq c.0 (codes "run")
+    then running_task c.1
+    else (if bytes_eq c.0 (codes "order") then ordering_task c.1 else None)))))))))))
 
 -- the task of a command with its arguments, if there is one
 abbrev pub task_in : Option (Text × List Row) → Option Task

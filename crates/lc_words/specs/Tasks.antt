@@ -1,5 +1,5 @@
 -- What may be asked for, and the words that ask for it.
-use Rattle.std.specs.Prelude.{◌≡◌, ◌≤◌, ◌<◌, ◌^◌, ℕ, ◌==◌, ◌&&◌, nat_le, length, map, string_bytes, String, Bool, true, false, not, codes, List, [], ◌∷◌, Option, Some, None, option_map}
+use Rattle.std.specs.Prelude.{◌≡◌, ◌≤◌, ◌<◌, ◌^◌, ℕ, ◌==◌, ◌&&◌, nat_le, length, map, string_bytes, String, Bool, true, false, not, codes, List, [], ◌∷◌, Option, Some, None, IfSome, option_map}
 use Rattle.std.specs.Borrow.{Bor}
 use Rattle.std.specs.Fmt.{decimal}
 use Rattle.std.specs.declared.alloc.Global.{Global}
@@ -13,7 +13,7 @@ use Rattle.lc_words.specs.declared.request.Chosen.TheVariants.{Number, Those}
 use Rattle.lc_words.specs.declared.request.LibraryText.{LibraryText}
 use Rattle.lc_words.specs.declared.request.LibraryText.TheVariants.{Development, Certificate, Hints}
 use Rattle.lc_words.specs.declared.request.Request.{Request}
-use Rattle.lc_words.specs.declared.request.Request.TheVariants.{Formula, Judge, Show, Conditions, Check, Prove, Draw, New, Library, Carry, Run}
+use Rattle.lc_words.specs.declared.request.Request.TheVariants.{Formula, Judge, Show, Conditions, Check, Prove, Draw, New, Library, Carry, Run, Order}
 
 -- Which conditions are chosen: those of a point, of a kind, or of both, by their words
 pub data Filter : Type 0 where
@@ -27,7 +27,9 @@ pub data Filter : Type 0 where
 -- workers; that a certificate is found for the development in a file, without hints or with those in another; that a certificate is found
 -- for a new development, with the proofs of an old one, by its certificate, without hints or with those in a further file; that the
 -- development in a file is run, which the certificate in another proves, by the plan in a third; that the history in one file is drawn by
--- the specification in another; that a development with a name is begun; or that a text of an object of the library is printed
+-- the specification in another; that a development with a name is begun; that a text of an object of the library is printed; or that an
+-- order is found that linearizes the history in one file by the specification in another, or a word says whether there is one, over as
+-- many nodes as a number says, if one is given
 pub data Task : Type 0 where
   CheckFormula : (path : List ℕ) → Task
   JudgeHistory : (development history : List ℕ) → Task
@@ -46,6 +48,7 @@ pub data Task : Type 0 where
   DrawHistory : (development history : List ℕ) → Task
   BeginDevelopment : (name : List ℕ) → Task
   PrintLibrary : (lib : Lib) (text : LibraryText) → Task
+  FindOrder : (development history : List ℕ) (check : Bool) (budget : Option ℕ) → Task
 
 -- the task of showing a development, on two lines or laid out
 abbrev pub showing : List ℕ → (lines : Bool) → Task
@@ -90,12 +93,13 @@ task_of (Judge development history) = JudgeHistory development.now history.now
 task_of (Show development lines) = showing development.now lines
 task_of (Conditions development chosen) = chosen_task development.now chosen
 task_of (Check development certificate workers all progress) = checking development.now certificate.now workers
-task_of (Prove development hints progress) = proving development.now (path_in hints)
+task_of (Prove development hints all progress) = proving development.now (path_in hints)
 task_of (Carry old certificate new hints progress) = carrying old.now certificate.now new.now (path_in hints)
 task_of (Run development certificate plan) = RunPlan development.now certificate.now plan.now
 task_of (Draw development history) = DrawHistory development.now history.now
 task_of (New name) = BeginDevelopment name.now
 task_of (Library lib text) = PrintLibrary lib text
+task_of (Order development history check budget) = FindOrder development.now history.now check budget
 
 -- the texts of the words
 abbrev pub texts_of : List (String Global) → List Text
@@ -122,6 +126,13 @@ filter_words (OfPoint point) = codes "--only" ∷ point ∷ []
 filter_words (OfKind kind) = codes "--kind" ∷ kind ∷ []
 filter_words (OfBoth point kind) = codes "--only" ∷ point ∷ codes "--kind" ∷ kind ∷ []
 
+-- the options of a search for an order
+abbrev pub order_words : (check : Bool) (budget : Option ℕ) → List Text
+order_words false None = []
+order_words true None = codes "--check" ∷ []
+order_words false (Some n) = codes "--budget" ∷ decimal n ∷ []
+order_words true (Some n) = codes "--check" ∷ codes "--budget" ∷ decimal n ∷ []
+
 -- the words that ask for a task, after the name of the program
 abbrev pub words_for : List ℕ → Task → List Text
 words_for name (CheckFormula path) = name ∷ codes "formula" ∷ path ∷ []
@@ -141,6 +152,7 @@ words_for name (RunPlan development certificate plan) = name ∷ codes "run" ∷
 words_for name (DrawHistory development history) = name ∷ codes "draw" ∷ development ∷ history ∷ []
 words_for name (BeginDevelopment own) = name ∷ codes "new" ∷ own ∷ []
 words_for name (PrintLibrary lib text) = library_words name (name_of lib) text
+words_for name (FindOrder development history check budget) = name ∷ codes "order" ∷ development ∷ history ∷ order_words check budget
 
 -- no word of it begins with a hyphen
 abbrev pub HasPlainWords : Filter → Type 0
@@ -167,6 +179,7 @@ HasPlainPaths (RunPlan development certificate plan) = (is_plain development ≡
 HasPlainPaths (DrawHistory development history) = (is_plain development ≡ true) × (is_plain history ≡ true)
 HasPlainPaths (BeginDevelopment name) = is_development_name name ≡ true
 HasPlainPaths (PrintLibrary lib text) = Unit {0}
+HasPlainPaths (FindOrder development history check budget) = (is_plain development ≡ true) × (is_plain history ≡ true) × IfSome budget (λ n. n < 2 ^ 64)
 
 -- it reads files
 abbrev pub ReadsFiles : Task → Type 0

@@ -11,7 +11,8 @@ use crate::texts::{
     DRAW, DRAW_ANSWER, EXIT_STATUS, EXPLAIN, FORMULA, FORMULA_ANSWER, FORMULA_FILE, HINTS, JUDGE,
     JUDGE_ANSWER, JUDGE_DEVELOPMENT, JUDGE_HISTORY, LIBRARY, LIBRARY_ANSWER, LIBRARY_CERTIFICATE,
     LIBRARY_HINTS, NEW, NEW_ANSWER, NEW_DEVELOPMENT, NEW_HINTS, NEW_NAME, OBJECT, OLD,
-    OLD_CERTIFICATE, PLAN_FILE, PROGRESS, PROVE, PROVE_ANSWER, RUN, RUN_ANSWER, SHOW, SHOW_ANSWER,
+    OLD_CERTIFICATE, ORDER, ORDER_ANSWER, ORDER_BUDGET, ORDER_CHECK, ORDER_HISTORY, PLAN_FILE,
+    PROGRESS, PROVE, PROVE_ALL, PROVE_ANSWER, QUIET, RUN, RUN_ANSWER, SHOW, SHOW_ANSWER,
     SHOW_LINES, VERSION, WORKERS,
 };
 use clap::builder::ValueParser;
@@ -26,8 +27,8 @@ enum Argument {
     Place(&'static str, &'static str),
     /// An option with a value, which is called so in the help.
     Value(&'static str, &'static str, &'static str),
-    /// An option with a number of workers.
-    Workers(&'static str, &'static str),
+    /// An option with a number from one to another.
+    Number(&'static str, &'static str, u64, u64),
     /// An option without a value.
     Flag(&'static str, &'static str),
 }
@@ -47,6 +48,7 @@ static FORMULA_COMMAND: Described = Described {
     answer: FORMULA_ANSWER,
     arguments: &[
         Argument::Place("FILE", FORMULA_FILE),
+        Argument::Flag("quiet", QUIET),
         Argument::Flag("explain", EXPLAIN),
     ],
 };
@@ -58,6 +60,7 @@ static JUDGE_COMMAND: Described = Described {
     arguments: &[
         Argument::Place("DEV", JUDGE_DEVELOPMENT),
         Argument::Place("HISTORY", JUDGE_HISTORY),
+        Argument::Flag("quiet", QUIET),
         Argument::Flag("explain", EXPLAIN),
     ],
 };
@@ -69,6 +72,7 @@ static SHOW_COMMAND: Described = Described {
     arguments: &[
         Argument::Place("DEV", DEVELOPMENT),
         Argument::Flag("lines", SHOW_LINES),
+        Argument::Flag("quiet", QUIET),
         Argument::Flag("explain", EXPLAIN),
     ],
 };
@@ -82,6 +86,7 @@ static CONDITIONS_COMMAND: Described = Described {
         Argument::Value("at", "K", CONDITION_NUMBER),
         Argument::Value("only", "POINT", CONDITION_POINT),
         Argument::Value("kind", "KIND", CONDITION_KIND),
+        Argument::Flag("quiet", QUIET),
         Argument::Flag("explain", EXPLAIN),
     ],
 };
@@ -93,9 +98,10 @@ static CHECK_COMMAND: Described = Described {
     arguments: &[
         Argument::Place("DEV", DEVELOPMENT),
         Argument::Place("CERT", CERTIFICATE_FILE),
-        Argument::Workers("workers", WORKERS),
+        Argument::Number("workers", WORKERS, 1, WORKER_LIMIT),
         Argument::Flag("all", CHECK_ALL),
         Argument::Flag("progress", CHECK_PROGRESS),
+        Argument::Flag("quiet", QUIET),
         Argument::Flag("explain", EXPLAIN),
     ],
 };
@@ -107,7 +113,9 @@ static PROVE_COMMAND: Described = Described {
     arguments: &[
         Argument::Place("DEV", DEVELOPMENT),
         Argument::Value("hints", "FILE", HINTS),
+        Argument::Flag("all", PROVE_ALL),
         Argument::Flag("progress", PROGRESS),
+        Argument::Flag("quiet", QUIET),
         Argument::Flag("explain", EXPLAIN),
     ],
 };
@@ -122,6 +130,7 @@ static CARRY_COMMAND: Described = Described {
         Argument::Place("NEW", NEW_DEVELOPMENT),
         Argument::Value("hints", "FILE", NEW_HINTS),
         Argument::Flag("progress", PROGRESS),
+        Argument::Flag("quiet", QUIET),
         Argument::Flag("explain", EXPLAIN),
     ],
 };
@@ -144,6 +153,7 @@ static DRAW_COMMAND: Described = Described {
     arguments: &[
         Argument::Place("DEV", JUDGE_DEVELOPMENT),
         Argument::Place("HISTORY", JUDGE_HISTORY),
+        Argument::Flag("quiet", QUIET),
         Argument::Flag("explain", EXPLAIN),
     ],
 };
@@ -163,6 +173,21 @@ static RUN_COMMAND: Described = Described {
         Argument::Place("DEV", DEVELOPMENT),
         Argument::Place("CERT", CERTIFICATE_FILE),
         Argument::Place("PLAN", PLAN_FILE),
+        Argument::Flag("quiet", QUIET),
+        Argument::Flag("explain", EXPLAIN),
+    ],
+};
+
+static ORDER_COMMAND: Described = Described {
+    name: "order",
+    about: ORDER,
+    answer: ORDER_ANSWER,
+    arguments: &[
+        Argument::Place("DEV", JUDGE_DEVELOPMENT),
+        Argument::Place("HISTORY", ORDER_HISTORY),
+        Argument::Flag("check", ORDER_CHECK),
+        Argument::Number("budget", ORDER_BUDGET, 0, u64::MAX),
+        Argument::Flag("quiet", QUIET),
         Argument::Flag("explain", EXPLAIN),
     ],
 };
@@ -190,9 +215,9 @@ fn arg_of<'a>(alloc: Global, argument: Argument) -> Arg<'a>
             .action(ArgAction::Set)
             .help(help),
         Argument::Value(name, value, help) => value_option(alloc, name, value, help),
-        Argument::Workers(name, help) => value_option(alloc, name, "N", help).value_parser(
-            ValueParser::Unsigned(1, WORKER_LIMIT),
-        ),
+        Argument::Number(name, help, least, most) => value_option(
+            alloc, name, "N", help,
+        ).value_parser(ValueParser::Unsigned(least, most)),
         Argument::Flag(name, help) => Arg::new(alloc, name)
             .long(name)
             .action(ArgAction::SetTrue)
@@ -245,6 +270,7 @@ pub(crate) fn program<'a>(alloc: Global) -> Result<Command<'a>, AllocError>
         &DRAW_COMMAND,
         &NEW_COMMAND,
         &RUN_COMMAND,
+        &ORDER_COMMAND,
     ];
     program_of(alloc, &commands)
 }

@@ -4,7 +4,7 @@ ghost use Rattle.clap.specs.Words.{found_of, kind_of, rows_of, subcommand_of, su
 ghost use Rattle.clap.specs.declared.error.kind.ErrorKind.TheVariants.{OutOfMemory};
 ghost use Rattle.lc_words.specs.Commands.{program_app};
 ghost use Rattle.lc_words.specs.Tasks.{CheckCertificate, CheckFormula, DrawHistory, JudgeHistory, Task, chosen_task, path_in, task_of, texts_of};
-ghost use Rattle.lc_words.specs.Reading.{AreWrong, AskFor, AskForHelp, AsksForText, Reads, beginning_task, checking_task, is_explained, is_set, library_task, listed, listing_task, number_in, one_file_task, proving_task, running_task, showing_task, task_in, text_for, two_file_task, carrying_task, checked, workers_given};
+ghost use Rattle.lc_words.specs.Reading.{AreWrong, AskFor, AskForHelp, AsksForText, Reads, beginning_task, checking_task, is_explained, is_set, library_task, listed, listing_task, number_given, number_in, one_file_task, ordering_task, proving_task, running_task, showing_task, task_in, text_for, two_file_task, carrying_task, checked};
 
 use crate::commands::program;
 use crate::request::{Asked, Chosen, LibraryText, Request};
@@ -40,6 +40,21 @@ fn draw_request<'a>(command: &ArgMatches<'a>) -> Option<Request<'a>>
     Some(Request::Draw {
         development,
         history,
+    })
+}
+
+fn order_request<'a>(command: &ArgMatches<'a>) -> Option<Request<'a>>
+    ensures { option_map task_of result ≡ ordering_task (rows_of (found_of command.now)) }
+{
+    let development = command.get_str("DEV")?;
+    let history = command.get_str("HISTORY")?;
+    let check = is_set(command, "check");
+    let budget = number_given(command, "budget");
+    Some(Request::Order {
+        development,
+        history,
+        check,
+        budget,
     })
 }
 
@@ -95,11 +110,11 @@ fn conditions_request<'a>(command: &ArgMatches<'a>) -> Option<Request<'a>>
     })
 }
 
-/// The number of workers, if one is given.
-fn workers_given(command: &ArgMatches<'_>) -> Option<u64>
-    ensures { result ≡ workers_given (rows_of (found_of command.now)) }
+/// The number of an option, if one is given.
+fn number_given(command: &ArgMatches<'_>, name: &str) -> Option<u64>
+    ensures { result ≡ number_given name.now (rows_of (found_of command.now)) }
 {
-    number_in(command.get_str("workers")?)
+    number_in(command.get_str(name)?)
 }
 
 /// The check that is asked for, by workers or with a word of how far it is, which exclude each other.
@@ -129,7 +144,7 @@ fn check_request<'a>(command: &ArgMatches<'a>) -> Option<Request<'a>>
 {
     let development = command.get_str("DEV")?;
     let certificate = command.get_str("CERT")?;
-    let workers = workers_given(command);
+    let workers = number_given(command, "workers");
     let all = command.get_flag("all");
     let progress = is_set(command, "progress");
     checked(development, certificate, workers, all, progress)
@@ -140,10 +155,12 @@ fn prove_request<'a>(command: &ArgMatches<'a>) -> Option<Request<'a>>
 {
     let development = command.get_str("DEV")?;
     let hints = command.get_str("hints");
+    let all = command.get_flag("all");
     let progress = command.get_flag("progress");
     Some(Request::Prove {
         development,
         hints,
+        all,
         progress,
     })
 }
@@ -228,6 +245,7 @@ fn request_of<'a>(matches: &ArgMatches<'a>) -> Option<Request<'a>>
         "draw" => draw_request(command),
         "new" => new_request(command),
         "run" => run_request(command),
+        "order" => order_request(command),
         _ => None,
     }
 }

@@ -50,10 +50,12 @@ pub enum Request<'a> {
         all: bool,
         progress: bool,
     },
-    /// Find a certificate of the development in a file, with the hints in another, if there is one; and say how far it is.
+    /// Find a certificate of the development in a file, with the hints in another, if there is one; and say for which conditions no
+    /// proof was found, and how far it is.
     Prove {
         development: &'a str,
         hints: Option<&'a str>,
+        all: bool,
         progress: bool,
     },
     /// Find a certificate of the new development, with the proofs of an old one, as `Prove` does for the rest.
@@ -74,6 +76,14 @@ pub enum Request<'a> {
     Draw {
         development: &'a str,
         history: &'a str,
+    },
+    /// Find an order that linearizes the history in a file, by the specification in another, over `budget` nodes, if a number is
+    /// given; or say with a word whether there is one.
+    Order {
+        development: &'a str,
+        history: &'a str,
+        check: bool,
+        budget: Option<u64>,
     },
     /// Print a development of this name to begin with.
     New(&'a str),

@@ -6,7 +6,8 @@ pub(crate) const ABOUT: &str = "Checks written proofs that concurrent objects ar
 
 pub(crate) const EXIT_STATUS: &str = "\
 A file that is not accepted is answered by one line on standard output: `refused`, a code, and numbers. With --explain each
-command that reads files also says where and why, on standard error.
+command that reads files also says where and why, on standard error; on a terminal it does so unless --quiet is written. With
+--json it says so by JSON objects, a line each, as editors read them. The path - is standard input.
 
 Exit status:
   0  accepted, or what was asked for is printed
@@ -30,7 +31,10 @@ Examples:
   lincheck library queue
       prints a queue, with all that is claimed of it";
 
-pub(crate) const EXPLAIN: &str = "Say on standard error where and why a file is refused";
+pub(crate) const EXPLAIN: &str =
+    "Say on standard error where and why a file is refused; on a terminal, as if it were written";
+
+pub(crate) const QUIET: &str = "Do not say it on a terminal, unless --explain is written";
 
 pub(crate) const FORMULA: &str = "Checks the proof of one formula";
 
@@ -47,7 +51,7 @@ step of the proof holds. Else it prints one line:
   refused 6 ITEM       a number or a count is beyond a limit
   refused 11 0 STEP R  the step of the proof does not hold, for reason R
   refused 12 0 STEP    the arithmetic of the step leaves 128 bits
-Bytes, items and steps are counted from 0, items and steps each before what stands in it.
+Bytes, items and steps are counted from 0, an item and a step each before those inside it.
 
 Example:
   lincheck formula examples/first.formula
@@ -56,7 +60,7 @@ Example:
 pub(crate) const JUDGE: &str = "Judges whether an order linearizes a history";
 
 pub(crate) const JUDGE_DEVELOPMENT: &str =
-    "A file that begins with a specification; what stands behind it is not looked at";
+    "A file that begins with a specification; what comes after it is not looked at";
 
 pub(crate) const JUDGE_HISTORY: &str =
     "A JSON file: an object with the arrays `events` and `order`";
@@ -73,7 +77,7 @@ Else it prints one line:
   refused 13 ITEM          the item of HISTORY is not of the form: 0 is the whole, then come the events, then the order
   refused 14 PLACE REASON  the entry there, counted from 0, is out of order:
        1 it is not its client's call of this number, 2 the call returned another reply,
-       3 behind the last place: a call that returned is missing,
+       3 after the last place: a call that returned is missing,
        4 the object does not give this reply here, or not by the choice that the entry names,
        5 the call of a later entry returned before this one began
   overflow                 a number that the specification reaches leaves 64 bits
@@ -86,13 +90,42 @@ pub(crate) const DRAW: &str = "Draws a history with its order";
 
 pub(crate) const DRAW_ANSWER: &str = "\
 Reads DEV and HISTORY as `judge` does, and prints a picture as SVG: a line for each client, a bar for each call from its beginning
-to its return, open at the right where it has not returned, and in the bars the entries of the order as marks with their places.
-What makes the order no linearization stands out, and the reason stands below. A file that `judge` refuses by the codes 1 to 4,
-6 or 13 is refused so.
+to its return, open at the right if it has not returned, and in the bars the entries of the order as marks with their places.
+What makes the order no linearization is marked, and the reason is written below. A file that `judge` refuses by the codes 1 to 4,
+6 or 13 is refused here too.
 
 Example:
   lincheck draw examples/counter.spec examples/linearizable.json > history.svg
       prints a picture of two clients that counted at the same time";
+
+pub(crate) const ORDER: &str =
+    "Finds an order that linearizes a recorded history, or shows that there is none";
+
+pub(crate) const ORDER_HISTORY: &str =
+    "A JSON file: an object with the array `events`, and with an array `order` or without";
+
+pub(crate) const ORDER_CHECK: &str = "Print the word `linearizable` in place of the history";
+
+pub(crate) const ORDER_BUDGET: &str =
+    "How many nodes of a search are looked at; 10,000,000 without it";
+
+pub(crate) const ORDER_ANSWER: &str = "\
+Reads DEV as `judge` does, and in HISTORY what clients called and what came back, as it was recorded. Looks for an order of the calls that
+linearizes the history, and prints the history with this order, as `judge` and `draw` read it. If HISTORY has an order that does,
+that one is printed. Else it prints one line:
+  refused CODE ..     DEV is refused as by `judge`, or HISTORY by code 13
+  not linearizable N  no order linearizes the history, and none its first N events
+  unknown             none was found, and of a call not all choices could be tried
+  overflow            none was found, and a number that was reached leaves 64 bits
+  budget              the search was given up
+An order that is printed linearizes the history, and if it is said that there is none, there is none, whatever the object chooses.
+A search can be long if an object shows late which of its calls came first, as a queue that has grown long.
+
+Examples:
+  lincheck order examples/counter.spec examples/recorded.json
+      prints what three clients saw of a counter, with an order that `judge` accepts
+  lincheck order examples/counter.spec examples/recorded.json --check
+      prints `linearizable`";
 
 pub(crate) const DEVELOPMENT: &str =
     "A development: a specification, the object's code, and what is claimed of it";
@@ -106,8 +139,8 @@ Reads DEV and prints it on two lines, the specification and the object, without 
 names that quantifiers bind are b0, b1, and so on, counted from the outermost. A DEV that is no development is refused as by
 `check`.
 
-With --lines it prints the two forms as they stand in DEV, without comments, over lines of 100 columns: a list that does not fit
-into the rest of its line goes on below, indented by 2. What is printed so is printed again as it stands.
+With --lines it prints the two forms as they are in DEV, without comments, over lines of 100 columns: a list that does not fit
+into the rest of its line goes on below, indented by 2. Laid out again, this text stays as it is.
 
 Examples:
   lincheck show examples/counter.lc
@@ -134,11 +167,12 @@ pub(crate) const CONDITIONS: &str = "Prints what has to be proved of a developme
 pub(crate) const CONDITIONS_ANSWER: &str = "\
 Reads DEV and prints a line for each of its conditions, and then `total` with their number:
   (condition K KIND POINT EDGE PATH NUM (vars V) (hyps F ..) (goal F))
-Where the goal of each follows from its hypotheses, in every state and for all numbers of its variables, the object is
+If the goal of each follows from its hypotheses, in every state and for all numbers of its variables, the object is
 linearizable. Lines are printed as they are made. A DEV that is no development is refused as by `check`.
 
-With --at K it prints condition K alone, over lines; where there is none, `refused 10 K`. With --only or --kind it prints the
-lines that have this POINT and this KIND, and `total` with their number.
+With --at K it prints condition K alone, over lines; if there is none, `refused 10 K`. With --explain it also shows, on standard
+error, the places of condition K in DEV, and its hypotheses by the names in DEV. With --only or --kind it prints the lines that have
+this POINT and this KIND, and `total` with their number; if DEV has no such point, `no-such-point`.
 
 Examples:
   lincheck conditions examples/counter.lc
@@ -146,13 +180,13 @@ Examples:
   lincheck conditions examples/counter.lc --at 9
       prints condition 9 over lines
   lincheck conditions examples/counter.lc --only p1 --kind invariant
-      prints the conditions that the invariant holds behind the point p1";
+      prints the conditions that the invariant holds after the step at p1";
 
-pub(crate) const CONDITION_NUMBER: &str = "Print the condition of this number alone, over lines";
+pub(crate) const CONDITION_NUMBER: &str = "Print only the condition of this number, over lines";
 
-pub(crate) const CONDITION_POINT: &str = "Print those alone that stand at this point";
+pub(crate) const CONDITION_POINT: &str = "Print only those at this point";
 
-pub(crate) const CONDITION_KIND: &str = "Print those alone that are of this kind, as `stable`";
+pub(crate) const CONDITION_KIND: &str = "Print only those of this kind, as `stable`";
 
 pub(crate) const CHECK: &str = "Checks that a certificate proves a development";
 
@@ -160,7 +194,7 @@ pub(crate) const CERTIFICATE_FILE: &str =
     "A certificate: one form with a proof for each condition, by its number";
 
 pub(crate) const CHECK_ANSWER: &str = "\
-Reads DEV and, where it is a development, CERT. Prints `accepted NAME COUNT`, the name of the object and how many
+Reads DEV and, if it is a development, CERT. Prints `accepted NAME COUNT`, the name of the object and how many
 conditions it has, if CERT has a proof for each of them and each step holds. Then for every number of clients, however
 their steps come between each other, the history of their calls and returns is linearizable. Else it prints one line:
   refused 1 OFFSET      the byte there makes DEV no s-expressions
@@ -177,7 +211,8 @@ their steps come between each other, the history of their calls and returns is l
   refused 12 K STEP     the arithmetic of the step leaves 128 bits
 
 With --explain a refusal by the codes 9 to 12 is followed, on standard error, by what condition K asks, and by the hypotheses
-that stand at the step, numbered as proofs number them. So a proof is written by putting (open), and reading what stands there.
+at the step, numbered as proofs number them. So a proof is written by putting (open), and reading what is known there. With --all it
+is said of each condition that is not proved; if that is most of them, CERT may be that of another version of DEV: see `carry`.
 
 With more than one worker CERT is read whole before its proofs are checked. The answer is the same for every number.
 
@@ -185,7 +220,7 @@ Examples:
   lincheck check examples/counter.lc examples/counter.cert
       prints `accepted counter 59`
   lincheck check examples/counter.lc examples/counter.cert --workers 4
-      prints the same, sooner where there is much to check";
+      prints the same, sooner if there is much to check";
 
 pub(crate) const WORKERS: &str =
     "How many workers check proofs side by side, from 1 to 64; excludes --progress";
@@ -203,19 +238,26 @@ pub(crate) const HINTS: &str = "Hints: terms, formulas and proofs for conditions
 pub(crate) const PROGRESS: &str =
     "Say on standard error, by `condition K`, which condition is looked at";
 
+pub(crate) const PROVE_ALL: &str =
+    "Go on after a miss, and say on standard error for which conditions no proof was found";
+
 pub(crate) const PROVE_ANSWER: &str = "\
-Reads DEV and, where it is a development, the hints in FILE. Looks for a proof of each condition, and prints a certificate
+Reads DEV and, if it is a development, the hints in FILE. Looks for a proof of each condition, and prints a certificate
 of all, which `check` accepts. Else it prints one line:
   refused CODE ..  DEV is no development, or FILE no hints: the codes 1 to 6, as of `check`
   not-found K      no proof of condition K was found
-  budget K         1,000,000 steps were tried for condition K, or the certificate would be too large
+  budget K         the search for condition K was given up, or the certificate would be too large
   large K          a number of the search for condition K leaves 128 bits
 `conditions` prints the conditions by their numbers. For condition K, FILE offers terms (use K T ..), a formula (cut K F) or
 a whole proof (by K P).
+With -o FILE after these words the certificate is put into FILE, and `found NAME COUNT` is printed; if there is none, FILE stays as
+it was.
 
-Example:
+Examples:
   lincheck prove examples/counter.lc
-      prints a certificate of the counter, with 59 proofs";
+      prints a certificate of the counter, with 59 proofs
+  lincheck prove examples/counter.lc -o counter.cert
+      puts it into a file, and prints `found counter 59`";
 
 pub(crate) const CARRY: &str = "Finds a certificate of a development that was changed";
 
@@ -234,9 +276,10 @@ on has the proof of that one, with the columns of the same names. For the others
 certificate of NEW, which `check` accepts. Else it prints one line:
   refused CODE ..  OLD or CERT is refused as by `check`, or NEW or FILE as by `prove`
   not-found K      no proof of condition K of NEW was found
-  budget K         1,000,000 steps were tried for condition K, or the certificate would be too large
+  budget K         the search for condition K was given up, or the certificate would be too large
   large K          a number of the search for condition K leaves 128 bits
-With --explain it also says on standard error how many proofs were carried and found, and how many conditions are left.
+With --explain it also says on standard error how many proofs were carried and found, and how many conditions are left. With
+-o FILE the certificate is put into FILE, as by `prove`.
 
 Example:
   lincheck carry examples/counter.lc examples/counter.cert examples/faa_counter.lc

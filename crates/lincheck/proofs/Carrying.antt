@@ -32,11 +32,12 @@ use Rattle.lincheck.specs.Check.{TellsRefusal}
 use Rattle.lc_words.specs.Tasks.{CheckCertificate, carrying}
 use Rattle.lincheck.specs.Execution.{AnswersTask, IsUnread}
 use Rattle.lincheck.specs.Prove.{ToldFound, OpensHints}
-use Rattle.lincheck.specs.Reading.{within_limit}
+use Rattle.lincheck.specs.Reading.{OfFile, within_limit}
 use Rattle.lincheck.specs.declared.answer.Answer.{Answer}
 use Rattle.lincheck.specs.declared.answer.Failure.{Failure}
 use Rattle.lincheck.specs.declared.carry.Old.{Old}
 use Rattle.lincheck.proofs.Opened.{refusal_of_certificate}
+use Rattle.lincheck.proofs.Read.{read_so}
 use Rattle.lincheck.proofs.Truncated.{said_of_whole}
 
 -- ---- the certificate
@@ -68,25 +69,20 @@ pub opens_accepted : (D : Development) (accepted : Accepted) (file : List ℕ) (
 opens_accepted D accepted file E result same h = subst (λ d. IfOk result (OpensCertificate d file)) same h
 
 -- what the beginning of a file opens as, so does the file
-pub certificate_opened : (D : Development) (known : Option (List ℕ)) (bytes seen : List ℕ) (opened : Result Old Answer) → IfSome known (λ file. bytes ≡ within_limit file) → seen ≡ bytes → OpensCertificate D seen opened
-    → IfSome known (λ file. OpensCertificate D file opened)
-certificate_opened D None bytes seen opened read same h = tt
-certificate_opened D (Some file) bytes seen (Ok old) read same (is, certifies, proves) =
-    (is, said_of_whole (certificate_reading D) file (entries_in old.certificate) (subst (λ b. Certifies D b (entries_in old.certificate)) (same ∙ read) certifies), proves)
-certificate_opened D (Some file) bytes seen (Err answer) read same (refusal, refuses, told) =
-    (refusal, refusal_of_certificate D file refusal (subst (λ b. IsCertificateRefusal D b refusal) (same ∙ read) refuses), told)
+pub certificate_opened : (D : Development) (known : Option (List ℕ)) (bytes seen : List ℕ) (opened : Result Old Answer) → OfFile known (λ file. bytes ≡ within_limit file) → seen ≡ bytes → OpensCertificate D seen opened
+    → OfFile known (λ file. OpensCertificate D file opened)
+certificate_opened D known bytes seen (Ok old) read same (is, certifies, proves) = read_so known read (λ file read. (is, said_of_whole (certificate_reading D) file (entries_in old.certificate) (subst (λ b. Certifies D b (entries_in old.certificate)) (same ∙ read) certifies), proves))
+certificate_opened D known bytes seen (Err answer) read same (refusal, refuses, told) = read_so known read (λ file read. (refusal, refusal_of_certificate D file refusal (subst (λ b. IsCertificateRefusal D b refusal) (same ∙ read) refuses), told))
 
 -- ---- the old development and its certificate
 
-pub old_opened : (known certificate certificate' : Option (List ℕ)) (D : Development) (result : Result (Result Old Answer) Failure) → IfSome known (λ file. Says file_reading file D) → certificate' ≡ certificate
-    → IfOk result (λ opened. IfSome certificate' (λ file. OpensCertificate D file opened)) → IfOk result (λ opened. IfSome known (λ file. OpensOld file certificate opened))
-old_opened None certificate certificate' D (Ok opened) says keeps h = tt
-old_opened (Some file) certificate certificate' D (Ok opened) says keeps h = inr (D, says, subst (λ c. IfSome c (λ f. OpensCertificate D f opened)) keeps h)
+pub old_opened : (known certificate certificate' : Option (List ℕ)) (D : Development) (result : Result (Result Old Answer) Failure) → OfFile known (λ file. Says file_reading file D) → certificate' ≡ certificate
+    → IfOk result (λ opened. OfFile certificate' (λ file. OpensCertificate D file opened)) → IfOk result (λ opened. OfFile known (λ file. OpensOld file certificate opened))
+old_opened known certificate certificate' D (Ok opened) says keeps h = read_so known says (λ file says. inr (D, says, subst (λ c. OfFile c (λ f. OpensCertificate D f opened)) keeps h))
 old_opened known certificate certificate' D (Err failure) says keeps h = tt
 
-pub old_refused : (known certificate : Option (List ℕ)) (answer : Answer) → IfSome known (λ file. TellsRefusal file answer.text.items answer.status) → IfSome known (λ file. OpensOld file certificate (Err answer))
-old_refused None certificate answer tells = tt
-old_refused (Some file) certificate answer tells = inl tells
+pub old_refused : (known certificate : Option (List ℕ)) (answer : Answer) → OfFile known (λ file. TellsRefusal file answer.text.items answer.status) → OfFile known (λ file. OpensOld file certificate (Err answer))
+old_refused known certificate answer tells = read_so known tells (λ file tells. inl tells)
 
 -- ---- the answer for a new development
 
@@ -100,76 +96,76 @@ sought_answered E given (Err fault) text status accepted range first told = inr 
 pub alone_answered : (E : Development) (given hs : List Entry) (text : List ℕ) (status : ℕ) → hs ≡ [] → AnswersSought E (given ++ hs) text status → AnswersSought E given text status
 alone_answered E given hs text status none h = subst (λ l. AnswersSought E l text status) (ap (λ l. given ++ l) none ∙ append-nil given) h
 
-pub hints_answered : (E : Development) (given : List Entry) (known : Option (List ℕ)) (hints : Hints) (text : List ℕ) (status : ℕ) → IfSome known (λ file. OpensHints E file (Ok hints))
+pub hints_answered : (E : Development) (given : List Entry) (known : Option (List ℕ)) (hints : Hints) (text : List ℕ) (status : ℕ) → OfFile known (λ file. OpensHints E file (Ok hints))
     → AnswersSought E (given ++ proofs_in hints) text status → AnswersWith (Some known) E given text status
-hints_answered E given None hints text status opens h = tt
-hints_answered E given (Some file) hints text status (hs, says, has) h = inr (hs, says, subst (λ l. AnswersSought E (given ++ l) text status) has.proofs h)
+hints_answered E given known hints text status opens h = read_so known opens (λ file (hs, says, has). inr (hs, says, subst (λ l. AnswersSought E (given ++ l) text status) has.proofs h))
 
-pub hints_told : (E : Development) (given : List Entry) (known : Option (List ℕ)) (answer : Answer) → IfSome known (λ file. OpensHints E file (Err answer)) → AnswersWith (Some known) E given answer.text.items answer.status
-hints_told E given None answer tells = tt
-hints_told E given (Some file) answer tells = inl tells
+pub hints_told : (E : Development) (given : List Entry) (known : Option (List ℕ)) (answer : Answer) → OfFile known (λ file. OpensHints E file (Err answer)) → AnswersWith (Some known) E given answer.text.items answer.status
+hints_told E given known answer tells = read_so known tells (λ file tells. inl tells)
 
 -- the bytes of the hints stay what they were
 pub same_hints : (before after : List ℕ → Option (List ℕ)) (path : Option (List ℕ)) → ((other : List ℕ) → after other ≡ before other) → hints_at after path ≡ hints_at before path
 same_hints before after None keeps = refl
 same_hints before after (Some path) keeps = ap Some (keeps path)
 
-pub new_answered : (D : Development) (es : List Entry) (known : Option (List ℕ)) (hints hints' : Option (Option (List ℕ))) (E : Development) (result : Result Answer Failure) → IfSome known (λ file. Says file_reading file E)
+pub new_answered : (D : Development) (es : List Entry) (known : Option (List ℕ)) (hints hints' : Option (Option (List ℕ))) (E : Development) (result : Result Answer Failure) → OfFile known (λ file. Says file_reading file E)
     → hints' ≡ hints → IfOk result (λ answer. AnswersWith hints' E (carried D es E) answer.text.items answer.status)
-    → IfOk result (λ answer. IfSome known (λ file. AnswersChanged (AnswersWith hints) D es file answer.text.items answer.status))
-new_answered D es None hints hints' E (Ok answer) says keeps h = tt
-new_answered D es (Some file) hints hints' E (Ok answer) says keeps h = inr (E, says, subst (λ x. AnswersWith x E (carried D es E) answer.text.items answer.status) keeps h)
+    → IfOk result (λ answer. OfFile known (λ file. AnswersChanged (AnswersWith hints) D es file answer.text.items answer.status))
+new_answered D es known hints hints' E (Ok answer) says keeps h = read_so known says (λ file says. inr (E, says, subst (λ x. AnswersWith x E (carried D es E) answer.text.items answer.status) keeps h))
 new_answered D es known hints hints' E (Err failure) says keeps h = tt
 
-pub new_refused : (D : Development) (es : List Entry) (known : Option (List ℕ)) (hints : Option (Option (List ℕ))) (answer : Answer) → IfSome known (λ file. TellsRefusal file answer.text.items answer.status)
-    → IfSome known (λ file. AnswersChanged (AnswersWith hints) D es file answer.text.items answer.status)
-new_refused D es None hints answer tells = tt
-new_refused D es (Some file) hints answer tells = inl tells
+pub new_refused : (D : Development) (es : List Entry) (known : Option (List ℕ)) (hints : Option (Option (List ℕ))) (answer : Answer) → OfFile known (λ file. TellsRefusal file answer.text.items answer.status)
+    → OfFile known (λ file. AnswersChanged (AnswersWith hints) D es file answer.text.items answer.status)
+new_refused D es known hints answer tells = read_so known tells (λ file tells. inl tells)
 
 -- ---- all files
 
 -- the answers to what the files of old and new have
 abbrev pub AnswersFiles : Option (Option (List ℕ)) → Option (List ℕ) → Option (List ℕ) → Option (List ℕ) → List ℕ → ℕ → Type 0
-AnswersFiles hints old certificate new text status = IfSome old (λ file. AnswersCarry (AnswersWith hints) file certificate new text status)
+AnswersFiles hints old certificate new text status = OfFile old (λ file. AnswersCarry (AnswersWith hints) file certificate new text status)
 
 carried_proven : (Answers : Development → List Entry → List ℕ → ℕ → Type 0) (certificate new new' : Option (List ℕ)) (D : Development) (old : Old) (text : List ℕ) (status : ℕ) → new' ≡ new
-    → IfSome certificate (λ file. OpensCertificate D file (Ok old)) → IfSome new' (λ file. AnswersChanged Answers (development_in old.accepted) (entries_in old.certificate) file text status)
-    → IfSome certificate (λ file. AnswersProven Answers D file new text status)
-carried_proven Answers None new new' D old text status keeps opens h = tt
-carried_proven Answers (Some file) new new' D old text status keeps (same, certifies, proves) h =
-    inr (
-      entries_in old.certificate,
-      certifies,
-      proves,
-      subst (λ n. IfSome n (λ f. AnswersChanged Answers D (entries_in old.certificate) f text status)) keeps (subst (λ d. IfSome new' (λ f. AnswersChanged Answers d (entries_in old.certificate) f text status)) same h),
-    )
+    → OfFile certificate (λ file. OpensCertificate D file (Ok old)) → OfFile new' (λ file. AnswersChanged Answers (development_in old.accepted) (entries_in old.certificate) file text status)
+    → OfFile certificate (λ file. AnswersProven Answers D file new text status)
+carried_proven Answers known new new' D old text status keeps opens h = read_so known opens (λ file (same, certifies, proves). inr (
+  entries_in old.certificate,
+  certifies,
+  proves,
+  subst (λ n. OfFile n (λ f. AnswersChanged Answers D (entries_in old.certificate) f text status)) keeps (subst (λ d. OfFile new' (λ f. AnswersChanged Answers d (entries_in old.certificate) f text status)) same h),
+))
 
-old_answered : (hints : Option (Option (List ℕ))) (dev certificate new new' : Option (List ℕ)) (old : Old) (answer : Answer) → new' ≡ new → IfSome dev (λ file. OpensOld file certificate (Ok old))
-    → IfSome new' (λ file. AnswersChanged (AnswersWith hints) (development_in old.accepted) (entries_in old.certificate) file answer.text.items answer.status) → AnswersFiles hints dev certificate new answer.text.items answer.status
-old_answered hints None certificate new new' old answer keeps opens h = tt
-old_answered hints (Some file) certificate new new' old answer keeps (inl never) h = absurd never
-old_answered hints (Some file) certificate new new' old answer keeps (inr (D, says, opens)) h =
+old_answered_at : (hints : Option (Option (List ℕ))) (file : List ℕ) (certificate new new' : Option (List ℕ)) (old : Old) (answer : Answer) → new' ≡ new → OpensOld file certificate (Ok old)
+    → OfFile new' (λ file. AnswersChanged (AnswersWith hints) (development_in old.accepted) (entries_in old.certificate) file answer.text.items answer.status)
+    → AnswersCarry (AnswersWith hints) file certificate new answer.text.items answer.status
+old_answered_at hints file certificate new new' old answer keeps (inl never) h = absurd never
+old_answered_at hints file certificate new new' old answer keeps (inr (D, says, opens)) h =
     inr (D, says, carried_proven (AnswersWith hints) certificate new new' D old answer.text.items answer.status keeps opens h)
 
+old_answered : (hints : Option (Option (List ℕ))) (dev certificate new new' : Option (List ℕ)) (old : Old) (answer : Answer) → new' ≡ new → OfFile dev (λ file. OpensOld file certificate (Ok old))
+    → OfFile new' (λ file. AnswersChanged (AnswersWith hints) (development_in old.accepted) (entries_in old.certificate) file answer.text.items answer.status) → AnswersFiles hints dev certificate new answer.text.items answer.status
+old_answered hints dev certificate new new' old answer keeps opens h = read_so dev opens (λ file opens. old_answered_at hints file certificate new new' old answer keeps opens h)
+
 pub all_answered : (hints hints' : Option (Option (List ℕ))) (dev certificate new new' : Option (List ℕ)) (old : Old) (result : Result Answer Failure) → new' ≡ new → hints' ≡ hints
-    → IfSome dev (λ file. OpensOld file certificate (Ok old))
-    → IfOk result (λ answer. IfSome new' (λ file. AnswersChanged (AnswersWith hints') (development_in old.accepted) (entries_in old.certificate) file answer.text.items answer.status))
+    → OfFile dev (λ file. OpensOld file certificate (Ok old))
+    → IfOk result (λ answer. OfFile new' (λ file. AnswersChanged (AnswersWith hints') (development_in old.accepted) (entries_in old.certificate) file answer.text.items answer.status))
     → IfOk result (λ answer. AnswersFiles hints dev certificate new answer.text.items answer.status)
 all_answered hints hints' dev certificate new new' old (Ok answer) keeps same opens h =
     old_answered hints dev certificate new new' old answer keeps opens
-    (subst (λ x. IfSome new' (λ file. AnswersChanged (AnswersWith x) (development_in old.accepted) (entries_in old.certificate) file answer.text.items answer.status)) same h)
+    (subst (λ x. OfFile new' (λ file. AnswersChanged (AnswersWith x) (development_in old.accepted) (entries_in old.certificate) file answer.text.items answer.status)) same h)
 all_answered hints hints' dev certificate new new' old (Err failure) keeps same opens h = tt
 
-certificate_refused : (Answers : Development → List Entry → List ℕ → ℕ → Type 0) (certificate new : Option (List ℕ)) (D : Development) (answer : Answer) → IfSome certificate (λ file. OpensCertificate D file (Err answer))
-    → IfSome certificate (λ file. AnswersProven Answers D file new answer.text.items answer.status)
-certificate_refused Answers None new D answer h = tt
-certificate_refused Answers (Some file) new D answer h = inl h
+certificate_refused : (Answers : Development → List Entry → List ℕ → ℕ → Type 0) (certificate new : Option (List ℕ)) (D : Development) (answer : Answer) → OfFile certificate (λ file. OpensCertificate D file (Err answer))
+    → OfFile certificate (λ file. AnswersProven Answers D file new answer.text.items answer.status)
+certificate_refused Answers known new D answer h = read_so known h (λ file h. inl h)
 
-pub all_refused : (hints : Option (Option (List ℕ))) (dev certificate new : Option (List ℕ)) (answer : Answer) → IfSome dev (λ file. OpensOld file certificate (Err answer))
+all_refused_at : (hints : Option (Option (List ℕ))) (file : List ℕ) (certificate new : Option (List ℕ)) (answer : Answer) → OpensOld file certificate (Err answer)
+    → AnswersCarry (AnswersWith hints) file certificate new answer.text.items answer.status
+all_refused_at hints file certificate new answer (inl tells) = inl tells
+all_refused_at hints file certificate new answer (inr (D, says, opens)) = inr (D, says, certificate_refused (AnswersWith hints) certificate new D answer opens)
+
+pub all_refused : (hints : Option (Option (List ℕ))) (dev certificate new : Option (List ℕ)) (answer : Answer) → OfFile dev (λ file. OpensOld file certificate (Err answer))
     → AnswersFiles hints dev certificate new answer.text.items answer.status
-all_refused hints None certificate new answer h = tt
-all_refused hints (Some file) certificate new answer (inl tells) = inl tells
-all_refused hints (Some file) certificate new answer (inr (D, says, opens)) = inr (D, says, certificate_refused (AnswersWith hints) certificate new D answer opens)
+all_refused hints dev certificate new answer h = read_so dev h (λ file refused. all_refused_at hints file certificate new answer refused)
 
 -- the task of these paths is answered so
 pub task_answered : (bytes_at : List ℕ → Option (List ℕ)) (old certificate new : List ℕ) (hints : Option (List ℕ)) (text : List ℕ) (status : ℕ)
@@ -215,21 +211,21 @@ opens_refused D file proofs answer says proven (inr (E, other, refuses)) = prove
 
 -- if the first files are refused, none is opened after them
 pub none_behind : (CannotOpen : List ℕ → Type 0) (bytes_at : List ℕ → Option (List ℕ)) (old certificate new : List ℕ) (hints : Option (List ℕ)) (answer : Answer)
-    → (IsUnread CannotOpen bytes_at (CheckCertificate old certificate) → ⊥) → IfSome (bytes_at old) (λ file. OpensOld file (bytes_at certificate) (Err answer))
+    → (IsUnread CannotOpen bytes_at (CheckCertificate old certificate) → ⊥) → OfFile (bytes_at old) (λ file. OpensOld file (bytes_at certificate) (Err answer))
     → IsUnreadCarry CannotOpen bytes_at old certificate new hints → ⊥
 none_behind CannotOpen bytes_at old certificate new hints answer opens refused (inl closed) = opens (inl closed)
 none_behind CannotOpen bytes_at old certificate new hints answer opens refused (inr (file, D, known, says, inl closed)) = opens (inr (file, D, known, says, closed))
 none_behind CannotOpen bytes_at old certificate new hints answer opens refused (inr (file, D, known, says, inr (proofs, there, proven, unread))) =
-    let dev = subst (λ o. IfSome o (λ f. OpensOld f (bytes_at certificate) (Err answer))) known refused in
+    let dev = subst (λ o. OfFile o (λ f. OpensOld f (bytes_at certificate) (Err answer))) known refused in
     opens_refused D file proofs answer says proven (subst (λ o. OpensOld file o (Err answer)) there dev)
 
 -- if the new development is refused, the hints are not opened
 pub refused_new : (CannotOpen : List ℕ → Type 0) (bytes_at : List ℕ → Option (List ℕ)) (new : List ℕ) (hints : Option (List ℕ)) (answer : Answer) → (CannotOpen new → ⊥)
-    → IfSome (bytes_at new) (λ file. TellsRefusal file answer.text.items answer.status) → IsUnreadNew CannotOpen bytes_at new hints → ⊥
+    → OfFile (bytes_at new) (λ file. TellsRefusal file answer.text.items answer.status) → IsUnreadNew CannotOpen bytes_at new hints → ⊥
 refused_new CannotOpen bytes_at new None answer opens tells unread = opens unread
 refused_new CannotOpen bytes_at new (Some hints) answer opens tells (inl unread) = opens unread
 refused_new CannotOpen bytes_at new (Some hints) answer opens tells (inr (file, E, known, says, closed)) =
-    let refuses : TellsRefusal file answer.text.items answer.status = subst (λ o. IfSome o (λ f. TellsRefusal f answer.text.items answer.status)) known tells in
+    let refuses : TellsRefusal file answer.text.items answer.status = subst (λ o. OfFile o (λ f. TellsRefusal f answer.text.items answer.status)) known tells in
     says_not_refused file_reading file E refuses.0 says refuses.1
 
 -- if it is read, it is the hints that cannot be opened

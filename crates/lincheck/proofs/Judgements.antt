@@ -1,5 +1,5 @@
 -- A judgement from the answers to the history's text and to its order, and from the beginning of a file.
-use Rattle.std.proofs.Common.{◌≡◌, ℕ, ◌≤◌, length, take, List, Option, Some, None, IfSome, IfOk, Result, Ok, Err, refl, subst, ◌∙◌, inl, inr, arith, Vec, ℤ}
+use Rattle.std.proofs.Common.{◌≡◌, ℕ, ◌≤◌, length, take, List, Option, Some, None, IfOk, Result, Ok, Err, refl, subst, ◌∙◌, inl, inr, arith, Vec, ℤ}
 use Rattle.std.specs.Prelude.{IsErr}
 use Rattle.std.specs.declared.alloc.Global.{Global}
 use Rattle.std.proofs.lemmas.List.{take_all, length-take}
@@ -24,11 +24,12 @@ use Rattle.lc_seq.specs.TextView.{specification_of}
 use Rattle.lc_spec_text.specs.Specifications.{first_reading}
 use Rattle.lc_words.specs.Tasks.{JudgeHistory}
 use Rattle.lincheck.specs.Execution.{IsUnread}
-use Rattle.lincheck.specs.Reading.{within_limit, most_bytes}
+use Rattle.lincheck.specs.Reading.{OfFile, within_limit, most_bytes}
 use Rattle.lincheck.specs.declared.answer.Answer.{Answer}
 use Rattle.lincheck.specs.declared.answer.Failure.{Failure}
 use Rattle.lincheck.specs.declared.judge.Judgement.{Judgement}
 use Rattle.lincheck.specs.declared.judge.Judgement.TheVariants.{Linearizable, Overflow}
+use Rattle.lincheck.proofs.Read.{read_so}
 use Rattle.lincheck.proofs.Truncated.{below_or_from, said_of_whole, refusal_of_whole}
 
 -- what is answered of the order that the text says makes the judgement
@@ -101,37 +102,31 @@ of_whole spec n file judgement e is = elim (below_or_from (length file) n) [
 
 -- what is reported about the judgement of what is read answers the file
 pub history_answered : (spec : Specification) (known : Option (List ℕ)) (bytes seen : List ℕ) (judgement : Result Judgement Fault) (text : List ℕ) (status : ℕ)
-    → IfSome known (λ file. bytes ≡ within_limit file) → seen ≡ bytes → IsJudgement spec seen judgement → ToldJudgement judgement text status
-    → IfSome known (λ file. AnswersHistory spec file text status)
-history_answered spec None bytes seen judgement text status read same is told = tt
-history_answered spec (Some file) bytes seen judgement text status read same is told =
-    (judgement, of_whole spec most_bytes file judgement refl (subst (λ b. IsJudgement spec b judgement) (same ∙ read) is), told)
+    → OfFile known (λ file. bytes ≡ within_limit file) → seen ≡ bytes → IsJudgement spec seen judgement → ToldJudgement judgement text status
+    → OfFile known (λ file. AnswersHistory spec file text status)
+history_answered spec known bytes seen judgement text status read same is told = read_so known read (λ file read. (judgement, of_whole spec most_bytes file judgement refl (subst (λ b. IsJudgement spec b judgement) (same ∙ read) is), told))
 
 -- what is reported about the history answers both files, if the development is read
 pub read_answered : (Answers : Specification → List ℕ → List ℕ → ℕ → Type 0) (known history history' : Option (List ℕ)) (bytes seen : List ℕ) (spec : Specification) (text : List ℕ) (status : ℕ)
-    → IfSome known (λ file. bytes ≡ within_limit file) → seen ≡ bytes → Says first_reading seen spec → history' ≡ history → IfSome history' (λ file. Answers spec file text status)
-    → IfSome known (λ file. AnswersBoth Answers file history text status)
-read_answered Answers None history history' bytes seen spec text status read same says keeps answers = tt
-read_answered Answers (Some file) history history' bytes seen spec text status read same says keeps answers =
-    inr (spec, said_of_whole first_reading file spec (subst (λ b. Says first_reading b spec) (same ∙ read) says), subst (λ h. IfSome h (λ f. Answers spec f text status)) keeps answers)
+    → OfFile known (λ file. bytes ≡ within_limit file) → seen ≡ bytes → Says first_reading seen spec → history' ≡ history → OfFile history' (λ file. Answers spec file text status)
+    → OfFile known (λ file. AnswersBoth Answers file history text status)
+read_answered Answers known history history' bytes seen spec text status read same says keeps answers = read_so known read (λ file read. inr (spec, said_of_whole first_reading file spec (subst (λ b. Says first_reading b spec) (same ∙ read) says), subst (λ h. OfFile h (λ f. Answers spec f text status)) keeps answers))
 
 -- so it does if it may not be reported
 pub read_answered_if : (Answers : Specification → List ℕ → List ℕ → ℕ → Type 0) (known history history' : Option (List ℕ)) (bytes seen : List ℕ) (spec : Specification) (result : Result Answer Failure)
-    → IfSome known (λ file. bytes ≡ within_limit file) → seen ≡ bytes → Says first_reading seen spec → history' ≡ history
-    → IfOk result (λ answer. IfSome history' (λ file. Answers spec file answer.text.items answer.status))
-    → IfOk result (λ answer. IfSome known (λ file. AnswersBoth Answers file history answer.text.items answer.status))
+    → OfFile known (λ file. bytes ≡ within_limit file) → seen ≡ bytes → Says first_reading seen spec → history' ≡ history
+    → IfOk result (λ answer. OfFile history' (λ file. Answers spec file answer.text.items answer.status))
+    → IfOk result (λ answer. OfFile known (λ file. AnswersBoth Answers file history answer.text.items answer.status))
 read_answered_if Answers known history history' bytes seen spec (Ok answer) read same says keeps answers =
     read_answered Answers known history history' bytes seen spec answer.text.items answer.status read same says keeps answers
 read_answered_if Answers known history history' bytes seen spec (Err failure) read same says keeps answers = tt
 
 -- what is reported about the refusal of the development answers both files
 pub refused_answered : (Answers : Specification → List ℕ → List ℕ → ℕ → Type 0) (known history : Option (List ℕ)) (bytes seen : List ℕ) (fault : Fault) (text : List ℕ) (status : ℕ)
-    → IfSome known (λ file. bytes ≡ within_limit file) → seen ≡ bytes → IsAnswerTo specification_of first_reading seen (Err fault) → ToldFault fault text status
-    → IfSome known (λ file. AnswersBoth Answers file history text status)
-refused_answered Answers None history bytes seen fault text status read same is told = tt
-refused_answered Answers (Some file) history bytes seen (Refused refusal) text status read same is told =
-    inl (refusal, refusal_of_whole first_reading file refusal (subst (λ b. IsFirstRefusal first_reading b refusal) (same ∙ read) is), told)
-refused_answered Answers (Some file) history bytes seen OutOfMemory text status read same is told = absurd told
+    → OfFile known (λ file. bytes ≡ within_limit file) → seen ≡ bytes → IsAnswerTo specification_of first_reading seen (Err fault) → ToldFault fault text status
+    → OfFile known (λ file. AnswersBoth Answers file history text status)
+refused_answered Answers known history bytes seen (Refused refusal) text status read same is told = read_so known read (λ file read. inl (refusal, refusal_of_whole first_reading file refusal (subst (λ b. IsFirstRefusal first_reading b refusal) (same ∙ read) is), told))
+refused_answered Answers known history bytes seen OutOfMemory text status read same is told = absurd told
 
 -- if a file that is needed cannot be opened, and the development is read, there is no answer
 pub read_unread : {T E : Type 0} (CannotOpen : List ℕ → Type 0) (bytes_at : List ℕ → Option (List ℕ)) (development history : List ℕ) (result : Result T E)
@@ -141,10 +136,10 @@ read_unread CannotOpen bytes_at development history result opened none (inr (fil
 
 -- a development that is refused is read, and says nothing
 pub refused_unread : {T E : Type 0} (CannotOpen : List ℕ → Type 0) (bytes_at : List ℕ → Option (List ℕ)) (development history : List ℕ) (result : Result T E) (bytes seen : List ℕ) (fault : Fault)
-    (text : List ℕ) (status : ℕ) → (CannotOpen development → ⊥) → IfSome (bytes_at development) (λ file. bytes ≡ within_limit file) → seen ≡ bytes → IsAnswerTo specification_of first_reading seen (Err fault) → ToldFault fault text status
+    (text : List ℕ) (status : ℕ) → (CannotOpen development → ⊥) → OfFile (bytes_at development) (λ file. bytes ≡ within_limit file) → seen ≡ bytes → IsAnswerTo specification_of first_reading seen (Err fault) → ToldFault fault text status
     → IsUnread CannotOpen bytes_at (JudgeHistory development history) → IsErr result
 refused_unread CannotOpen bytes_at development history result bytes seen fault text status opened read same is told (inl closed) = absurd (opened closed)
 refused_unread CannotOpen bytes_at development history result bytes seen (Refused refusal) text status opened read same is told (inr (file, spec, known, says, closed)) =
-    let whole : bytes ≡ within_limit file = subst (λ o. IfSome o (λ f. bytes ≡ within_limit f)) known read in
+    let whole : bytes ≡ within_limit file = subst (λ o. OfFile o (λ f. bytes ≡ within_limit f)) known read in
     absurd (says_not_refused first_reading file spec refusal says (refusal_of_whole first_reading file refusal (subst (λ b. IsFirstRefusal first_reading b refusal) (same ∙ whole) is)))
 refused_unread CannotOpen bytes_at development history result bytes seen OutOfMemory text status opened read same is told (inr unread) = absurd told

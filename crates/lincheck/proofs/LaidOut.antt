@@ -1,5 +1,5 @@
 -- What is laid out of a development's file, from the beginning of it that is read.
-use Rattle.std.proofs.Common.{◌≡◌, ℕ, ◌≤◌, List, length, Option, Some, None, IfSome, Result, Ok, Err, refl, sym, subst, ap, ◌∙◌, inl, inr}
+use Rattle.std.proofs.Common.{◌≡◌, ℕ, ◌≤◌, List, length, Option, Some, None, Result, Ok, Err, refl, sym, subst, ap, ◌∙◌, inl, inr}
 use Rattle.std.specs.Result.{IsErrAnd}
 use Rattle.lc_base.specs.Line.{refusal_line_of}
 use Rattle.lc_base.specs.Limits.{depth_limit, file_limit}
@@ -19,7 +19,8 @@ use Rattle.lc_sexp.specs.Printed.{HaveAtoms}
 use Rattle.lc_sexp.specs.Trees.{Trees, depth_of_all}
 use Rattle.lincheck.specs.Answers.{ToldFault}
 use Rattle.lincheck.specs.Lines.{AnswersLines, IsLaidOut, LaysOut}
-use Rattle.lincheck.specs.Reading.{within_limit, most_bytes}
+use Rattle.lincheck.specs.Reading.{OfFile, within_limit, most_bytes}
+use Rattle.lincheck.proofs.Read.{read_so}
 use Rattle.lincheck.proofs.Truncated.{reading_of_whole, refusal_of_whole}
 
 -- ---- what a reader was fed
@@ -59,17 +60,14 @@ forms_lay bytes forms D text reads (ts, reads', says) is = (ts, D, reads', says,
 laid_of_whole : (file text : List ℕ) → IsLaidOut (within_limit file) text → IsLaidOut file text
 laid_of_whole file text (forms, D, reads, says, is) = (forms, D, reading_of_whole most_bytes file forms refl reads, says, is)
 
-pub lines_answered : {T : Type 0} (text_in : T → List ℕ) (known : Option (List ℕ)) (bytes : List ℕ) (text : T) → IfSome known (λ file. bytes ≡ within_limit file) → LaysOut text_in bytes (Ok text)
-    → IfSome known (λ file. AnswersLines file (text_in text) 0)
-lines_answered text_in None bytes text read lays = tt
-lines_answered text_in (Some file) bytes text read lays = inr (laid_of_whole file (text_in text) (subst (λ b. IsLaidOut b (text_in text)) read lays), refl)
+pub lines_answered : {T : Type 0} (text_in : T → List ℕ) (known : Option (List ℕ)) (bytes : List ℕ) (text : T) → OfFile known (λ file. bytes ≡ within_limit file) → LaysOut text_in bytes (Ok text)
+    → OfFile known (λ file. AnswersLines file (text_in text) 0)
+lines_answered text_in known bytes text read lays = read_so known read (λ file read. inr (laid_of_whole file (text_in text) (subst (λ b. IsLaidOut b (text_in text)) read lays), refl))
 
-pub lines_refused : {T : Type 0} (text_in : T → List ℕ) (known : Option (List ℕ)) (bytes : List ℕ) (fault : Fault) (text : List ℕ) (status : ℕ) → IfSome known (λ file. bytes ≡ within_limit file)
-    → LaysOut text_in bytes (Err fault) → ToldFault fault text status → IfSome known (λ file. AnswersLines file text status)
-lines_refused text_in None bytes fault text status read lays told = tt
-lines_refused text_in (Some file) bytes (Refused refusal) text status read lays told =
-    inl (refusal, refusal_of_whole file_reading file refusal (subst (λ b. IsFirstRefusal file_reading b refusal) read lays), told)
-lines_refused text_in (Some file) bytes OutOfMemory text status read lays told = absurd told
+pub lines_refused : {T : Type 0} (text_in : T → List ℕ) (known : Option (List ℕ)) (bytes : List ℕ) (fault : Fault) (text : List ℕ) (status : ℕ) → OfFile known (λ file. bytes ≡ within_limit file)
+    → LaysOut text_in bytes (Err fault) → ToldFault fault text status → OfFile known (λ file. AnswersLines file text status)
+lines_refused text_in known bytes (Refused refusal) text status read lays told = read_so known read (λ file read. inl (refusal, refusal_of_whole file_reading file refusal (subst (λ b. IsFirstRefusal file_reading b refusal) read lays), told))
+lines_refused text_in known bytes OutOfMemory text status read lays told = absurd told
 
 -- ---- printing again
 

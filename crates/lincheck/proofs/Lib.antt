@@ -2,8 +2,10 @@ mod Truncated
 mod Verdicts
 mod Judgements
 mod Drawn
+mod Ordered
 mod OneAnswer
 mod Taken
+mod Read
 mod Endings
 mod Opened
 mod Sharing

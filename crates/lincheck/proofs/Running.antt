@@ -1,5 +1,5 @@
 -- What a development's file, its certificate's and a plan's are answered, from the beginnings of them that are read.
-use Rattle.std.proofs.Common.{◌≡◌, ℕ, ℤ, List, [], ◌∷◌, ◌++◌, codes, flat_map, length, Option, Some, None, IfSome, IfOk, Result, Ok, Err, Vec, sym, ap, ap₂, subst, ◌∙◌, inl, inr}
+use Rattle.std.proofs.Common.{◌≡◌, ℕ, ℤ, List, [], ◌∷◌, ◌++◌, codes, flat_map, length, Option, Some, None, IfOk, Result, Ok, Err, Vec, sym, ap, ap₂, subst, ◌∙◌, inl, inr}
 use Rattle.std.proofs.lemmas.List.{length-map}
 use Rattle.std.specs.declared.alloc.Global.{Global}
 use Rattle.lc_base.specs.Line.{line_of}
@@ -32,11 +32,12 @@ use Rattle.lc_seq.specs.declared.text_call.TextCall.{TextCall}
 use Rattle.lincheck.specs.Answers.{ToldFault}
 use Rattle.lincheck.specs.Carry.{RefusesCertificate}
 use Rattle.lincheck.specs.Check.{TellsRefusal}
-use Rattle.lincheck.specs.Reading.{within_limit}
+use Rattle.lincheck.specs.Reading.{OfFile, within_limit}
 use Rattle.lincheck.specs.Run.{AnswersPlan, AnswersProvenRun, AnswersRun, IsUnreadPlan, IsUnreadRun, OpensAccepted, OpensPlan, RefusesPlan, RunsSo, TellsRun, end_text, ran_text, run_text}
 use Rattle.lincheck.specs.declared.answer.Answer.{Answer}
 use Rattle.lincheck.specs.declared.answer.Failure.{Failure}
 use Rattle.lincheck.proofs.Opened.{refusal_of_certificate}
+use Rattle.lincheck.proofs.Read.{read_so}
 use Rattle.lincheck.proofs.Truncated.{said_of_whole, refusal_of_whole}
 
 -- ---- the certificate
@@ -45,31 +46,25 @@ accepted_of_whole : (D : Development) (file : List ℕ) (accepted : Accepted) �
 accepted_of_whole D file accepted (same, (es, certifies, proves)) = (same, (es, said_of_whole (certificate_reading D) file es certifies, proves))
 
 -- what is accepted by the beginning of a file is accepted by the file
-pub accepted_opened : (D : Development) (known : Option (List ℕ)) (bytes : List ℕ) (accepted : Accepted) → IfSome known (λ file. bytes ≡ within_limit file) → IsVerdictOn D bytes (accepts accepted)
-    → IfSome known (λ file. OpensAccepted D file (Ok accepted))
-accepted_opened D None bytes accepted read is = tt
-accepted_opened D (Some file) bytes accepted read is = accepted_of_whole D file accepted (subst (λ b. IsVerdictOn D b (accepts accepted)) read is)
+pub accepted_opened : (D : Development) (known : Option (List ℕ)) (bytes : List ℕ) (accepted : Accepted) → OfFile known (λ file. bytes ≡ within_limit file) → IsVerdictOn D bytes (accepts accepted)
+    → OfFile known (λ file. OpensAccepted D file (Ok accepted))
+accepted_opened D known bytes accepted read is = read_so known read (λ file read. accepted_of_whole D file accepted (subst (λ b. IsVerdictOn D b (accepts accepted)) read is))
 
 -- and what is refused is refused
-pub certificate_told : (D : Development) (known : Option (List ℕ)) (bytes : List ℕ) (refusal : Refusal) (text : List ℕ) (status : ℕ) → IfSome known (λ file. bytes ≡ within_limit file)
-    → IsVerdictOn D bytes (refuses refusal) → ToldFault (Refused refusal) text status → IfSome known (λ file. RefusesCertificate D file text status)
-certificate_told D None bytes refusal text status read is told = tt
-certificate_told D (Some file) bytes refusal text status read is told =
-    (refusal, refusal_of_certificate D file refusal (subst (λ b. IsVerdictOn D b (refuses refusal)) read is), told)
+pub certificate_told : (D : Development) (known : Option (List ℕ)) (bytes : List ℕ) (refusal : Refusal) (text : List ℕ) (status : ℕ) → OfFile known (λ file. bytes ≡ within_limit file)
+    → IsVerdictOn D bytes (refuses refusal) → ToldFault (Refused refusal) text status → OfFile known (λ file. RefusesCertificate D file text status)
+certificate_told D known bytes refusal text status read is told = read_so known read (λ file read. (refusal, refusal_of_certificate D file refusal (subst (λ b. IsVerdictOn D b (refuses refusal)) read is), told))
 
 -- ---- the plan
 
-pub plan_opened : (D : Development) (known : Option (List ℕ)) (bytes : List ℕ) (plan : Plan) → IfSome known (λ file. bytes ≡ within_limit file) → IsAnswerTo plan_of (plan_reading D) bytes (Ok plan)
-    → IfSome known (λ file. OpensPlan D file (Ok plan))
-plan_opened D None bytes plan read is = tt
-plan_opened D (Some file) bytes plan read is = said_of_whole (plan_reading D) file (plan_of plan) (subst (λ b. Says (plan_reading D) b (plan_of plan)) read is)
+pub plan_opened : (D : Development) (known : Option (List ℕ)) (bytes : List ℕ) (plan : Plan) → OfFile known (λ file. bytes ≡ within_limit file) → IsAnswerTo plan_of (plan_reading D) bytes (Ok plan)
+    → OfFile known (λ file. OpensPlan D file (Ok plan))
+plan_opened D known bytes plan read is = read_so known read (λ file read. said_of_whole (plan_reading D) file (plan_of plan) (subst (λ b. Says (plan_reading D) b (plan_of plan)) read is))
 
-pub plan_refused : (D : Development) (known : Option (List ℕ)) (bytes : List ℕ) (fault : Fault) (text : List ℕ) (status : ℕ) → IfSome known (λ file. bytes ≡ within_limit file)
-    → IsAnswerTo plan_of (plan_reading D) bytes (Err fault) → ToldFault fault text status → IfSome known (λ file. RefusesPlan D file text status)
-plan_refused D None bytes fault text status read is told = tt
-plan_refused D (Some file) bytes (Refused refusal) text status read is told =
-    (refusal, refusal_of_whole (plan_reading D) file refusal (subst (λ b. IsFirstRefusal (plan_reading D) b refusal) read is), told)
-plan_refused D (Some file) bytes OutOfMemory text status read is told = absurd told
+pub plan_refused : (D : Development) (known : Option (List ℕ)) (bytes : List ℕ) (fault : Fault) (text : List ℕ) (status : ℕ) → OfFile known (λ file. bytes ≡ within_limit file)
+    → IsAnswerTo plan_of (plan_reading D) bytes (Err fault) → ToldFault fault text status → OfFile known (λ file. RefusesPlan D file text status)
+plan_refused D known bytes (Refused refusal) text status read is told = read_so known read (λ file read. (refusal, refusal_of_whole (plan_reading D) file refusal (subst (λ b. IsFirstRefusal (plan_reading D) b refusal) read is), told))
+plan_refused D known bytes OutOfMemory text status read is told = absurd told
 
 -- ---- what has run
 
@@ -97,73 +92,65 @@ ran_told D n ran text is same = (
 
 -- ---- the answers
 
-pub planned_answered : (D : Development) (known : Option (List ℕ)) (plan : Plan) (text : List ℕ) (status : ℕ) → IfSome known (λ file. OpensPlan D file (Ok plan)) → RunsSo D plan.clients text status
-    → IfSome known (λ file. AnswersPlan D file text status)
-planned_answered D None plan text status opens runs = tt
-planned_answered D (Some file) plan text status opens runs = inr (plan_of plan, opens, runs)
+pub planned_answered : (D : Development) (known : Option (List ℕ)) (plan : Plan) (text : List ℕ) (status : ℕ) → OfFile known (λ file. OpensPlan D file (Ok plan)) → RunsSo D plan.clients text status
+    → OfFile known (λ file. AnswersPlan D file text status)
+planned_answered D known plan text status opens runs = read_so known opens (λ file opens. inr (plan_of plan, opens, runs))
 
-pub planned_refused : (D : Development) (known : Option (List ℕ)) (answer : Answer) → IfSome known (λ file. OpensPlan D file (Err answer))
-    → IfSome known (λ file. AnswersPlan D file answer.text.items answer.status)
-planned_refused D None answer tells = tt
-planned_refused D (Some file) answer tells = inl tells
+pub planned_refused : (D : Development) (known : Option (List ℕ)) (answer : Answer) → OfFile known (λ file. OpensPlan D file (Err answer))
+    → OfFile known (λ file. AnswersPlan D file answer.text.items answer.status)
+planned_refused D known answer tells = read_so known tells (λ file tells. inl tells)
 
-pub proven_answered : (D : Development) (known plan plan' : Option (List ℕ)) (accepted : Accepted) (result : Result Answer Failure) → IfSome known (λ file. OpensAccepted D file (Ok accepted)) → plan' ≡ plan
-    → IfOk result (λ answer. IfSome plan' (λ file. AnswersPlan (development_in accepted) file answer.text.items answer.status))
-    → IfOk result (λ answer. IfSome known (λ file. AnswersProvenRun D file plan answer.text.items answer.status))
-proven_answered D None plan plan' accepted (Ok answer) opens keeps h = tt
-proven_answered D (Some file) plan plan' accepted (Ok answer) (same, proven) keeps h =
-    inr (proven, subst (λ p. IfSome p (λ f. AnswersPlan D f answer.text.items answer.status)) keeps (subst (λ d. IfSome plan' (λ f. AnswersPlan d f answer.text.items answer.status)) same h))
+pub proven_answered : (D : Development) (known plan plan' : Option (List ℕ)) (accepted : Accepted) (result : Result Answer Failure) → OfFile known (λ file. OpensAccepted D file (Ok accepted)) → plan' ≡ plan
+    → IfOk result (λ answer. OfFile plan' (λ file. AnswersPlan (development_in accepted) file answer.text.items answer.status))
+    → IfOk result (λ answer. OfFile known (λ file. AnswersProvenRun D file plan answer.text.items answer.status))
+proven_answered D known plan plan' accepted (Ok answer) opens keeps h = read_so known opens (λ file (same, proven). inr (proven, subst (λ p. OfFile p (λ f. AnswersPlan D f answer.text.items answer.status)) keeps (subst (λ d. OfFile plan' (λ f. AnswersPlan d f answer.text.items answer.status)) same h)))
 proven_answered D known plan plan' accepted (Err failure) opens keeps h = tt
 
-pub proven_refused : (D : Development) (known plan : Option (List ℕ)) (answer : Answer) → IfSome known (λ file. OpensAccepted D file (Err answer))
-    → IfSome known (λ file. AnswersProvenRun D file plan answer.text.items answer.status)
-proven_refused D None plan answer tells = tt
-proven_refused D (Some file) plan answer tells = inl tells
+pub proven_refused : (D : Development) (known plan : Option (List ℕ)) (answer : Answer) → OfFile known (λ file. OpensAccepted D file (Err answer))
+    → OfFile known (λ file. AnswersProvenRun D file plan answer.text.items answer.status)
+proven_refused D known plan answer tells = read_so known tells (λ file tells. inl tells)
 
-pub run_answered : (known certificate certificate' plan plan' : Option (List ℕ)) (D : Development) (result : Result Answer Failure) → IfSome known (λ file. Says file_reading file D) → certificate' ≡ certificate → plan' ≡ plan
-    → IfOk result (λ answer. IfSome certificate' (λ file. AnswersProvenRun D file plan' answer.text.items answer.status))
-    → IfOk result (λ answer. IfSome known (λ file. AnswersRun file certificate plan answer.text.items answer.status))
-run_answered None certificate certificate' plan plan' D (Ok answer) says keeps keeps' h = tt
-run_answered (Some file) certificate certificate' plan plan' D (Ok answer) says keeps keeps' h =
-    inr (
-      D,
-      says,
-      subst (λ c. IfSome c (λ f. AnswersProvenRun D f plan answer.text.items answer.status)) keeps
-          (subst (λ p. IfSome certificate' (λ f. AnswersProvenRun D f p answer.text.items answer.status)) keeps' h),
-    )
+pub run_answered : (known certificate certificate' plan plan' : Option (List ℕ)) (D : Development) (result : Result Answer Failure) → OfFile known (λ file. Says file_reading file D) → certificate' ≡ certificate → plan' ≡ plan
+    → IfOk result (λ answer. OfFile certificate' (λ file. AnswersProvenRun D file plan' answer.text.items answer.status))
+    → IfOk result (λ answer. OfFile known (λ file. AnswersRun file certificate plan answer.text.items answer.status))
+run_answered known certificate certificate' plan plan' D (Ok answer) says keeps keeps' h = read_so known says (λ file says. inr (
+  D,
+  says,
+  subst (λ c. OfFile c (λ f. AnswersProvenRun D f plan answer.text.items answer.status)) keeps
+      (subst (λ p. OfFile certificate' (λ f. AnswersProvenRun D f p answer.text.items answer.status)) keeps' h),
+))
 run_answered known certificate certificate' plan plan' D (Err failure) says keeps keeps' h = tt
 
-pub run_refused : (known certificate plan : Option (List ℕ)) (answer : Answer) → IfSome known (λ file. TellsRefusal file answer.text.items answer.status)
-    → IfSome known (λ file. AnswersRun file certificate plan answer.text.items answer.status)
-run_refused None certificate plan answer tells = tt
-run_refused (Some file) certificate plan answer tells = inl tells
+pub run_refused : (known certificate plan : Option (List ℕ)) (answer : Answer) → OfFile known (λ file. TellsRefusal file answer.text.items answer.status)
+    → OfFile known (λ file. AnswersRun file certificate plan answer.text.items answer.status)
+run_refused known certificate plan answer tells = read_so known tells (λ file tells. inl tells)
 
 -- ---- files that cannot be opened
 
 -- none is opened after a development that is refused
 pub none_behind_refused : (CannotOpen : List ℕ → Type 0) (bytes_at : List ℕ → Option (List ℕ)) (development certificate plan : List ℕ) (answer : Answer) → (CannotOpen development → ⊥)
-    → IfSome (bytes_at development) (λ file. TellsRefusal file answer.text.items answer.status) → IsUnreadRun CannotOpen bytes_at development certificate plan → ⊥
+    → OfFile (bytes_at development) (λ file. TellsRefusal file answer.text.items answer.status) → IsUnreadRun CannotOpen bytes_at development certificate plan → ⊥
 none_behind_refused CannotOpen bytes_at development certificate plan answer opens tells (inl closed) = opens closed
 none_behind_refused CannotOpen bytes_at development certificate plan answer opens tells (inr (file, D, known, says, closed)) =
-    let told : TellsRefusal file answer.text.items answer.status = subst (λ o. IfSome o (λ f. TellsRefusal f answer.text.items answer.status)) known tells in
+    let told : TellsRefusal file answer.text.items answer.status = subst (λ o. OfFile o (λ f. TellsRefusal f answer.text.items answer.status)) known tells in
     says_not_refused file_reading file D told.0 says told.1
 
 -- one is opened after a development that is read, which is the one that was read
 pub unread_behind_read : (CannotOpen CannotOpen' : List ℕ → Type 0) (bytes_at bytes_at' : List ℕ → Option (List ℕ)) (development certificate plan : List ℕ) (D : Development) → (CannotOpen development → ⊥)
-    → IfSome (bytes_at development) (λ file. Says file_reading file D) → ((other : List ℕ) → bytes_at' other ≡ bytes_at other) → ((other : List ℕ) → CannotOpen other → CannotOpen' other)
+    → OfFile (bytes_at development) (λ file. Says file_reading file D) → ((other : List ℕ) → bytes_at' other ≡ bytes_at other) → ((other : List ℕ) → CannotOpen other → CannotOpen' other)
     → IsUnreadRun CannotOpen bytes_at development certificate plan → IsUnreadPlan CannotOpen' bytes_at' D certificate plan
 unread_behind_read CannotOpen CannotOpen' bytes_at bytes_at' development certificate plan D opens read keeps closed (inl never) = absurd (opens never)
 unread_behind_read CannotOpen CannotOpen' bytes_at bytes_at' development certificate plan D opens read keeps closed (inr (file, E, known, says, inl unread)) = inl (closed certificate unread)
 unread_behind_read CannotOpen CannotOpen' bytes_at bytes_at' development certificate plan D opens read keeps closed (inr (file, E, known, says, inr (proofs, there, proven, unread))) =
-    let here : Says file_reading file D = subst (λ o. IfSome o (λ f. Says file_reading f D)) known read in
+    let here : Says file_reading file D = subst (λ o. OfFile o (λ f. Says file_reading f D)) known read in
     inr (proofs, keeps certificate ∙ there, subst (λ x. IsProvenBy x proofs) (says_one file_reading file E D says here) proven, closed plan unread)
 
 -- none is opened after a certificate that is refused
 pub none_behind_unproven : (CannotOpen : List ℕ → Type 0) (bytes_at : List ℕ → Option (List ℕ)) (D : Development) (certificate plan : List ℕ) (answer : Answer) → (CannotOpen certificate → ⊥)
-    → IfSome (bytes_at certificate) (λ file. OpensAccepted D file (Err answer)) → IsUnreadPlan CannotOpen bytes_at D certificate plan → ⊥
+    → OfFile (bytes_at certificate) (λ file. OpensAccepted D file (Err answer)) → IsUnreadPlan CannotOpen bytes_at D certificate plan → ⊥
 none_behind_unproven CannotOpen bytes_at D certificate plan answer opens tells (inl closed) = opens closed
 none_behind_unproven CannotOpen bytes_at D certificate plan answer opens tells (inr (proofs, known, proven, closed)) =
-    let told : RefusesCertificate D proofs answer.text.items answer.status = subst (λ o. IfSome o (λ f. OpensAccepted D f (Err answer))) known tells in
+    let told : RefusesCertificate D proofs answer.text.items answer.status = subst (λ o. OfFile o (λ f. OpensAccepted D f (Err answer))) known tells in
     not_certified_and_refused D proofs told.0 proven told.1
 
 -- the plan, after a certificate that is accepted

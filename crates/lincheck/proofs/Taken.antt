@@ -3,6 +3,7 @@ use Rattle.std.proofs.Common.{◌≡◌, ℕ, ◌+◌, ◌≤◌, List, [], ◌�
 use Rattle.std.specs.Io.KnownBytes.{Consumes, IsAtEnd}
 use Rattle.std.proofs.lemmas.List.{take_all}
 use Rattle.std.proofs.Math.Seq.{take-append_seam}
+use Rattle.lincheck.specs.Reading.{OfFile}
 
 -- if something is left, as much was read as the limit is
 at_limit : (n k : ℕ) (y : ℕ) (ys : List ℕ) → k ≤ n → (k + 1 ≤ n → y ∷ ys ≡ []) → n ≡ k
@@ -18,6 +19,6 @@ taken_from file None bytes n consumed bound end = absurd consumed
 taken_from file (Some ys) bytes n consumed bound end = from_parts bytes ys n bound end ∙ ap (take n) (sym consumed)
 
 pub consumed_is_taken : (known left right : Option (List ℕ)) (bytes : List ℕ) (n : ℕ) → IfSome known (λ file. left ≡ Some file) → Consumes left right bytes
-    → length bytes ≤ n → (length bytes + 1 ≤ n → IsAtEnd right) → IfSome known (λ file. bytes ≡ take n file)
-consumed_is_taken None left right bytes n opened consumed bound end = tt
+    → length bytes ≤ n → (length bytes + 1 ≤ n → IsAtEnd right) → OfFile known (λ file. bytes ≡ take n file)
+consumed_is_taken None left right bytes n opened consumed bound end = (bytes, sym (take_all n bytes bound))
 consumed_is_taken (Some file) left right bytes n opened consumed bound end = taken_from file right bytes n (subst (λ l. Consumes l right bytes) opened consumed) bound end

@@ -1,5 +1,5 @@
 -- A verdict from the answers to the file and to its proof, and from the beginning of a file.
-use Rattle.std.proofs.Common.{◌≡◌, ℕ, List, codes, Option, Some, None, IfSome, Result, Ok, Err, refl, sym, subst, ◌∙◌, inl, inr}
+use Rattle.std.proofs.Common.{◌≡◌, ℕ, List, codes, Option, Some, None, Result, Ok, Err, refl, sym, subst, ◌∙◌, inl, inr}
 use Rattle.std.specs.Result.{IsErrAnd}
 use Rattle.lc_base.specs.declared.refusal.Fault.{Fault}
 use Rattle.lc_base.specs.declared.refusal.Fault.TheVariants.{Refused, OutOfMemory}
@@ -20,7 +20,8 @@ use Rattle.lc_term.specs.Syntax as T
 use Rattle.lc_table.specs.Tables.{formula_in, formulas_in}
 use Rattle.lincheck.specs.Answers.{Told}
 use Rattle.lincheck.specs.Formula.{AnswersFormula, IsVerdict, fault_of}
-use Rattle.lincheck.specs.Reading.{within_limit}
+use Rattle.lincheck.specs.Reading.{OfFile, within_limit}
+use Rattle.lincheck.proofs.Read.{read_so}
 use Rattle.lincheck.proofs.Truncated.{said_of_whole, refusal_of_whole}
 
 -- what the kernel answers of a goal and a proof
@@ -64,7 +65,6 @@ verdict_of_whole file (Err (Refused refusal)) (inr (claim, step, flaw, says, fai
 verdict_of_whole file (Err OutOfMemory) h = tt
 
 -- what is reported about the verdict on what is read answers the file
-pub verdict_answers_file : (known : Option (List ℕ)) (bytes seen : List ℕ) (verdict : Result (Unit {0}) Fault) (text : List ℕ) (status : ℕ) → IfSome known (λ file. bytes ≡ within_limit file) → seen ≡ bytes
-    → IsVerdict seen verdict → Told (codes "proved") verdict text status → IfSome known (λ file. AnswersFormula file text status)
-verdict_answers_file None bytes seen verdict text status read same is told = tt
-verdict_answers_file (Some file) bytes seen verdict text status read same is told = (verdict, verdict_of_whole file verdict (subst (λ b. IsVerdict b verdict) (same ∙ read) is), told)
+pub verdict_answers_file : (known : Option (List ℕ)) (bytes seen : List ℕ) (verdict : Result (Unit {0}) Fault) (text : List ℕ) (status : ℕ) → OfFile known (λ file. bytes ≡ within_limit file) → seen ≡ bytes
+    → IsVerdict seen verdict → Told (codes "proved") verdict text status → OfFile known (λ file. AnswersFormula file text status)
+verdict_answers_file known bytes seen verdict text status read same is told = read_so known read (λ file read. (verdict, verdict_of_whole file verdict (subst (λ b. IsVerdict b verdict) (same ∙ read) is), told))

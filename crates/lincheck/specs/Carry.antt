@@ -1,5 +1,5 @@
 -- The answers to an old development's file, its certificate's, and a new development's file, without hints or with a file of such.
-use Rattle.std.specs.Prelude.{◌≡◌, ℕ, ◌⊎◌, List, ◌++◌, length, Option, Some, None, IfSome, option_map, Result, Ok, Err}
+use Rattle.std.specs.Prelude.{◌≡◌, ℕ, ◌⊎◌, List, ◌++◌, length, Option, Some, None, option_map, Result, Ok, Err}
 use Rattle.lc_base.specs.declared.refusal.Fault.TheVariants.{Refused}
 use Rattle.lc_base.specs.declared.refusal.Refusal.{Refusal}
 use Rattle.lc_carry.specs.Carried.{carried}
@@ -20,6 +20,7 @@ use Rattle.lc_reading.specs.Files.{Says}
 use Rattle.lincheck.specs.Answers.{ToldFault}
 use Rattle.lincheck.specs.Check.{TellsRefusal}
 use Rattle.lincheck.specs.Prove.{IsFound, RefusesHints, ToldUnfound}
+use Rattle.lincheck.specs.Reading.{OfFile}
 use Rattle.lincheck.specs.declared.answer.Answer.{Answer}
 use Rattle.lincheck.specs.declared.carry.Old.{Old}
 
@@ -34,7 +35,7 @@ AnswersSought E given text status =
 abbrev pub AnswersWith : Option (Option (List ℕ)) → Development → List Entry → List ℕ → ℕ → Type 0
 AnswersWith None E given text status = AnswersSought E given text status
 AnswersWith (Some hints) E given text status =
-    IfSome hints (λ file. RefusesHints E file text status ⊎ ((hs : List Hint) × Says (hints_reading E) file hs × AnswersSought E (given ++ proofs_of hs) text status))
+    OfFile hints (λ file. RefusesHints E file text status ⊎ ((hs : List Hint) × Says (hints_reading E) file hs × AnswersSought E (given ++ proofs_of hs) text status))
 
 -- the bytes of the hints, if there is a path of such
 abbrev pub hints_at : (List ℕ → Option (List ℕ)) → Option (List ℕ) → Option (Option (List ℕ))
@@ -52,13 +53,13 @@ RefusesCertificate D file text status = (refusal : Refusal) × IsCertificateRefu
 abbrev pub AnswersProven : (Development → List Entry → List ℕ → ℕ → Type 0) → Development → List ℕ → Option (List ℕ) → List ℕ → ℕ → Type 0
 AnswersProven Answers D file new text status =
     RefusesCertificate D file text status
-    ⊎ ((es : List Entry) × Certifies D file es × ProvesAll es (conditions D) × IfSome new (λ other. AnswersChanged Answers D es other text status))
+    ⊎ ((es : List Entry) × Certifies D file es × ProvesAll es (conditions D) × OfFile new (λ other. AnswersChanged Answers D es other text status))
 
 -- The answer to an old development's file, its certificate's and a new development's. The first that is refused decides
 abbrev pub AnswersCarry : (Development → List Entry → List ℕ → ℕ → Type 0) → List ℕ → Option (List ℕ) → Option (List ℕ) → List ℕ → ℕ → Type 0
 AnswersCarry Answers old certificate new text status =
     TellsRefusal old text status
-    ⊎ ((D : Development) × Says file_reading old D × IfSome certificate (λ file. AnswersProven Answers D file new text status))
+    ⊎ ((D : Development) × Says file_reading old D × OfFile certificate (λ file. AnswersProven Answers D file new text status))
 
 -- ---- files that are opened
 
@@ -74,7 +75,7 @@ IsToldRefused dev (Err answer) = TellsRefusal dev answer.text.items answer.statu
 
 -- the files of a development and its certificate are opened
 abbrev pub OpensOld : List ℕ → Option (List ℕ) → Result Old Answer → Type 0
-OpensOld dev certificate opened = IsToldRefused dev opened ⊎ ((D : Development) × Says file_reading dev D × IfSome certificate (λ file. OpensCertificate D file opened))
+OpensOld dev certificate opened = IsToldRefused dev opened ⊎ ((D : Development) × Says file_reading dev D × OfFile certificate (λ file. OpensCertificate D file opened))
 
 -- the certificate is that of the development that is accepted
 abbrev pub IsCertified : Old → Type 0

@@ -1,5 +1,5 @@
 -- The answers to a development's file, and to a development's file and a certificate's.
-use Rattle.std.specs.Prelude.{◌≡◌, ℕ, ◌⊎◌, List, [], ◌∷◌, ◌++◌, codes, length, Option, IfSome, Result, Ok, Err}
+use Rattle.std.specs.Prelude.{◌≡◌, ℕ, ◌⊎◌, List, [], ◌∷◌, ◌++◌, codes, length, Option, Result, Ok, Err}
 use Rattle.lc_base.specs.Line.{line_of}
 use Rattle.lc_base.specs.declared.refusal.Fault.TheVariants.{Refused}
 use Rattle.lc_base.specs.declared.refusal.Refusal.{Refusal}
@@ -14,6 +14,7 @@ use Rattle.lc_outline.specs.declared.development.Development.{Development}
 use Rattle.lc_outline_text.specs.Developments.{file_reading}
 use Rattle.lc_reading.specs.Files.{Says, IsFirstRefusal}
 use Rattle.lincheck.specs.Answers.{ToldFault}
+use Rattle.lincheck.specs.Reading.{OfFile}
 use Rattle.lincheck.specs.declared.answer.Answer.{Answer}
 
 -- the file is no development, and its first refusal is reported
@@ -49,4 +50,4 @@ TellsVerdict (IsRefused refusal) text status = ToldFault (Refused refusal) text 
 abbrev pub AnswersCheck : List ℕ → Option (List ℕ) → List ℕ → ℕ → Type 0
 AnswersCheck development certificate text status =
     TellsRefusal development text status
-    ⊎ ((D : S.Development) × Says file_reading development D × IfSome certificate (λ file. AnswersCertificate D file text status))
+    ⊎ ((D : S.Development) × Says file_reading development D × OfFile certificate (λ file. AnswersCertificate D file text status))

@@ -1,5 +1,5 @@
 -- The judgement of a history by a specification, and the answer to a development's file and a history's.
-use Rattle.std.specs.Prelude.{◌≡◌, ℕ, ◌⊎◌, List, [], codes, Option, IfSome, Result, Ok, Err}
+use Rattle.std.specs.Prelude.{◌≡◌, ℕ, ◌⊎◌, List, [], codes, Option, Result, Ok, Err}
 use Rattle.lc_base.specs.Line.{line_of}
 use Rattle.lc_base.specs.declared.refusal.Fault.{Fault}
 use Rattle.lc_base.specs.declared.refusal.Fault.TheVariants.{Refused, OutOfMemory}
@@ -17,6 +17,7 @@ use Rattle.lc_spec_text.specs.Specifications.{first_reading}
 use Rattle.lc_seq.specs.Specification.{Specification}
 use Rattle.lc_seq.specs.TextStep.{text_step, TextFits, start_of}
 use Rattle.lincheck.specs.Answers.{ToldFault}
+use Rattle.lincheck.specs.Reading.{OfFile}
 use Rattle.lincheck.specs.declared.judge.Judgement.{Judgement}
 use Rattle.lincheck.specs.declared.judge.Judgement.TheVariants.{Linearizable, Overflow}
 
@@ -82,10 +83,10 @@ AnswersHistory spec file text status = (judgement : Result Judgement Fault) × I
 abbrev pub AnswersRefused : List ℕ → List ℕ → ℕ → Type 0
 AnswersRefused development text status = (refusal : Refusal) × IsFirstRefusal first_reading development refusal × ToldFault (Refused refusal) text status
 
--- the first form of the development's file is a specification, by which the history's file is answered so, if this is known
+-- the first form of the development's file is a specification, by which the history's file is answered so
 abbrev pub AnswersRead : (Specification → List ℕ → List ℕ → ℕ → Type 0) → List ℕ → Option (List ℕ) → List ℕ → ℕ → Type 0
 AnswersRead Answers development history text status =
-    (spec : Specification) × Says first_reading development spec × IfSome history (λ file. Answers spec file text status)
+    (spec : Specification) × Says first_reading development spec × OfFile history (λ file. Answers spec file text status)
 
 -- a refusal of the development's file decides, whatever the history's has; else this is answered so
 abbrev pub AnswersBoth : (Specification → List ℕ → List ℕ → ℕ → Type 0) → List ℕ → Option (List ℕ) → List ℕ → ℕ → Type 0

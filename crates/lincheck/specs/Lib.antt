@@ -8,6 +8,7 @@ pub mod Check
 pub mod Condition
 pub mod Lines
 pub mod New
+pub mod Order
 pub mod Carry
 pub mod Prove
 pub mod Library

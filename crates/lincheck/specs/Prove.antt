@@ -1,5 +1,5 @@
 -- The answers to a development's file for which a certificate is to be found, without hints or with a file of such.
-use Rattle.std.specs.Prelude.{◌≡◌, ℕ, ◌⊎◌, List, [], ◌∷◌, codes, length, Option, IfSome, Result, Ok, Err}
+use Rattle.std.specs.Prelude.{◌≡◌, ℕ, ◌⊎◌, List, [], ◌∷◌, codes, length, Option, Result, Ok, Err}
 use Rattle.lc_base.specs.Line.{line_of}
 use Rattle.lc_base.specs.declared.refusal.Fault.TheVariants.{Refused}
 use Rattle.lc_base.specs.declared.refusal.Refusal.{Refusal}
@@ -23,6 +23,7 @@ use Rattle.lc_outline_text.specs.Developments.{file_reading}
 use Rattle.lc_reading.specs.Files.{Says, IsFirstRefusal}
 use Rattle.lincheck.specs.Answers.{ToldFault}
 use Rattle.lincheck.specs.Check.{TellsRefusal}
+use Rattle.lincheck.specs.Reading.{OfFile}
 use Rattle.lincheck.specs.declared.answer.Answer.{Answer}
 
 -- the text is a certificate that is accepted, in which each condition has the first proof that the hints have for it, if that holds
@@ -78,4 +79,4 @@ AnswersProve development text status =
 abbrev pub AnswersHinted : List ℕ → Option (List ℕ) → List ℕ → ℕ → Type 0
 AnswersHinted development hints text status =
     TellsRefusal development text status
-    ⊎ ((D : Development) × Says file_reading development D × IfSome hints (λ file. AnswersHints D file text status))
+    ⊎ ((D : Development) × Says file_reading development D × OfFile hints (λ file. AnswersHints D file text status))

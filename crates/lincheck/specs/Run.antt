@@ -1,5 +1,5 @@
 -- The answers to a development's file, its certificate's and a plan's.
-use Rattle.std.specs.Prelude.{◌≡◌, ℕ, ◌⊎◌, List, [], ◌∷◌, ◌++◌, codes, flat_map, length, Option, Some, None, IfSome, Result, Ok, Err}
+use Rattle.std.specs.Prelude.{◌≡◌, ℕ, ◌⊎◌, List, [], ◌∷◌, ◌++◌, codes, flat_map, length, Option, Some, None, Result, Ok, Err}
 use Rattle.std.specs.Fmt.{decimal}
 use Rattle.lc_base.specs.Line.{line_of}
 use Rattle.lc_base.specs.declared.refusal.Fault.TheVariants.{Refused}
@@ -28,6 +28,7 @@ use Rattle.lc_sound.specs.Order.{order}
 use Rattle.lincheck.specs.Answers.{ToldFault}
 use Rattle.lincheck.specs.Carry.{RefusesCertificate}
 use Rattle.lincheck.specs.Check.{TellsRefusal}
+use Rattle.lincheck.specs.Reading.{OfFile}
 use Rattle.lincheck.specs.declared.answer.Answer.{Answer}
 
 -- ---- what is printed
@@ -68,13 +69,13 @@ AnswersPlan D file text status = RefusesPlan D file text status ⊎ ((P : S.Plan
 -- the file of the certificate is refused; or it proves the development, and the plan's is answered
 abbrev pub AnswersProvenRun : Development → List ℕ → Option (List ℕ) → List ℕ → ℕ → Type 0
 AnswersProvenRun D file plan text status =
-    RefusesCertificate D file text status ⊎ (IsProvenBy D file × IfSome plan (λ other. AnswersPlan D other text status))
+    RefusesCertificate D file text status ⊎ (IsProvenBy D file × OfFile plan (λ other. AnswersPlan D other text status))
 
 -- The answer to a development's file, its certificate's and a plan's. The first that is refused decides
 abbrev pub AnswersRun : List ℕ → Option (List ℕ) → Option (List ℕ) → List ℕ → ℕ → Type 0
 AnswersRun development certificate plan text status =
     TellsRefusal development text status
-    ⊎ ((D : Development) × Says file_reading development D × IfSome certificate (λ file. AnswersProvenRun D file plan text status))
+    ⊎ ((D : Development) × Says file_reading development D × OfFile certificate (λ file. AnswersProvenRun D file plan text status))
 
 -- ---- files that are opened
 

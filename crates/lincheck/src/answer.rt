@@ -32,6 +32,10 @@ pub enum Why {
     Refused(Refusal),
     /// Of the condition of this number no proof was found.
     Unfound(u64),
+    /// No order linearizes this many first events of a history.
+    Unordered(u64),
+    /// The development has no point of the name that is asked for.
+    NoPoint,
 }
 
 /// What a command answers: what it prints on standard output, its exit status, and why it is refused, if that can be explained.

@@ -9,6 +9,7 @@ ghost use Rattle.lc_outline.specs.DevelopmentView.{development_view};
 ghost use Rattle.lincheck.specs.Carry.{AnswersChanged, AnswersSought, OpensCertificate, OpensOld, AnswersWith, IsCertified, IsUnreadNew, hints_at};
 ghost use Rattle.lc_words.specs.Tasks.{CheckCertificate, carrying, path_in};
 ghost use Rattle.lincheck.specs.Execution.{AnswersTask, IsUnread};
+ghost use Rattle.lincheck.specs.Reading.{OfFile};
 
 use crate::answer::{Answer, Failure, told_fault};
 use crate::check::open_development;
@@ -85,7 +86,7 @@ fn open_certificate<'a, F: Files>(
     ensures keeps { (other : List ℕ) → F.bytes_at files.new other ≡ F.bytes_at files.old other }
     ensures closed { (other : List ℕ) → F.CannotOpen files.old other → F.CannotOpen files.new other }
     ensures unread { F.CannotOpen files.old path.now → IsErr result }
-    ensures opens { IfOk result (λ opened. IfSome (F.bytes_at files.old path.now) (λ file. OpensCertificate (development_view development) file opened)) }
+    ensures opens { IfOk result (λ opened. OfFile (F.bytes_at files.old path.now) (λ file. OpensCertificate (development_view development) file opened)) }
     ensures certified { IfOk result (λ opened. IfOk opened IsCertified) }
 {
     let bytes = read_file(alloc, files, path)?;
@@ -103,7 +104,7 @@ fn open_old<'a, F: Files>(
     ensures keeps { (other : List ℕ) → F.bytes_at files.new other ≡ F.bytes_at files.old other }
     ensures closed { (other : List ℕ) → F.CannotOpen files.old other → F.CannotOpen files.new other }
     ensures unread { IsUnread (F.CannotOpen files.old) (F.bytes_at files.old) (CheckCertificate development.now certificate.now) → IsErr result }
-    ensures opens { IfOk result (λ opened. IfSome (F.bytes_at files.old development.now) (λ file. OpensOld file (F.bytes_at files.old certificate.now) opened)) }
+    ensures opens { IfOk result (λ opened. OfFile (F.bytes_at files.old development.now) (λ file. OpensOld file (F.bytes_at files.old certificate.now) opened)) }
     ensures certified { IfOk result (λ opened. IfOk opened IsCertified) }
 {
     match open_development(alloc, files, development)? {
@@ -173,7 +174,7 @@ fn answer_new<'a, F: Files, P: Progress>(
 ) -> Result<Answer, Failure<'a>>
     requires { IsCertified old.now }
     ensures unread { IsUnreadNew (F.CannotOpen files.old) (F.bytes_at files.old) new.now (path_in hints.entry) → IsErr result }
-    ensures answers { IfOk result (λ answer. IfSome (F.bytes_at files.old new.now) (λ file. AnswersChanged (AnswersWith (hints_at (F.bytes_at files.old) (path_in hints.entry)))
+    ensures answers { IfOk result (λ answer. OfFile (F.bytes_at files.old new.now) (λ file. AnswersChanged (AnswersWith (hints_at (F.bytes_at files.old) (path_in hints.entry)))
         (development_in old.now.accepted) (entries_in old.now.certificate) file answer.text.items answer.status)) }
 {
     match open_development(alloc, files, new)? {

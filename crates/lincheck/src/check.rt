@@ -1,5 +1,5 @@
 //! The command `check`.
-ghost use Rattle.std.specs.Prelude.{◌≡◌, ℕ, List, IfOk, IfSome, IsErr};
+ghost use Rattle.std.specs.Prelude.{◌≡◌, ℕ, List, IfOk, IsErr};
 ghost use Rattle.lc_sexp.specs.Pieces.{WasFed};
 ghost use Rattle.lc_reading.specs.Files.{IsAnswerTo};
 ghost use Rattle.lc_outline.specs.DevelopmentView.{development_view};
@@ -8,6 +8,7 @@ ghost use Rattle.lc_check.specs.VerdictView.{IsVerdictOn, development_in};
 ghost use Rattle.lc_words.specs.Tasks.{CheckCertificate};
 ghost use Rattle.lincheck.specs.Check.{AnswersCertificate, AnswersCheck, OpensAs, TellsVerdict, accepted_line};
 ghost use Rattle.lincheck.specs.Execution.{IsUnread};
+ghost use Rattle.lincheck.specs.Reading.{OfFile};
 
 use crate::answer::{Answer, Failure, SUCCESS, told_fault};
 use crate::files::Files;
@@ -42,7 +43,7 @@ pub fn open_development<'a, F: Files>(
     ensures keeps { (other : List ℕ) → F.bytes_at files.new other ≡ F.bytes_at files.old other }
     ensures closed { (other : List ℕ) → F.CannotOpen files.old other → F.CannotOpen files.new other }
     ensures unread { F.CannotOpen files.old path.now → IsErr result }
-    ensures opens { IfOk result (λ opened. IfSome (F.bytes_at files.old path.now) (λ file. OpensAs file opened)) }
+    ensures opens { IfOk result (λ opened. OfFile (F.bytes_at files.old path.now) (λ file. OpensAs file opened)) }
 {
     let reader = feed_forms(alloc, files, path)?;
     match development_fed(alloc, reader) {
@@ -83,7 +84,7 @@ fn answer_certificate<'a, F: Files>(
     path: &'a str,
 ) -> Result<Answer, Failure<'a>>
     ensures unread { F.CannotOpen files.old path.now → IsErr result }
-    ensures answers { IfOk result (λ answer. IfSome (F.bytes_at files.old path.now) (λ file. AnswersCertificate (development_view development) file answer.text.items answer.status)) }
+    ensures answers { IfOk result (λ answer. OfFile (F.bytes_at files.old path.now) (λ file. AnswersCertificate (development_view development) file answer.text.items answer.status)) }
 {
     let mut session = CertificateSession::new(alloc, development)?;
     feed_file(files, path, &mut session)?;
@@ -115,7 +116,7 @@ fn answer_counted<'a, F: Files, E: Write>(
     err: &mut E,
 ) -> Result<Answer, Failure<'a>>
     ensures unread { F.CannotOpen files.old path.now → IsErr result }
-    ensures answers { IfOk result (λ answer. IfSome (F.bytes_at files.old path.now) (λ file. AnswersCertificate (development_view development) file answer.text.items answer.status)) }
+    ensures answers { IfOk result (λ answer. OfFile (F.bytes_at files.old path.now) (λ file. AnswersCertificate (development_view development) file answer.text.items answer.status)) }
 {
     let cert = read_file(alloc, files, path)?;
     let verdict = counted_verdict(alloc, development, &cert, err)?;
@@ -134,7 +135,7 @@ fn answer_said<'a, R: Threads + Wait + Sync, F: Files, E: Write>(
     telling: &mut Telling<'_, E>,
 ) -> Result<Answer, Failure<'a>>
     ensures unread { F.CannotOpen files.old path.now → IsErr result }
-    ensures answers { IfOk result (λ answer. IfSome (F.bytes_at files.old path.now) (λ file. AnswersCertificate (development_view development) file answer.text.items answer.status)) }
+    ensures answers { IfOk result (λ answer. OfFile (F.bytes_at files.old path.now) (λ file. AnswersCertificate (development_view development) file answer.text.items answer.status)) }
 {
     if telling.is_asked {
         return answer_counted(alloc, files, development, path, telling.err);
@@ -157,7 +158,7 @@ pub fn answer_check<'a, R: Threads + Wait + Sync, F: Files, E: Write>(
     telling: &mut Telling<'_, E>,
 ) -> Result<Answer, Failure<'a>>
     ensures unread { IsUnread (F.CannotOpen files.old) (F.bytes_at files.old) (CheckCertificate development.now certificate.now) → IsErr result }
-    ensures answers { IfOk result (λ answer. IfSome (F.bytes_at files.old development.now) (λ file. AnswersCheck file (F.bytes_at files.old certificate.now) answer.text.items answer.status)) }
+    ensures answers { IfOk result (λ answer. OfFile (F.bytes_at files.old development.now) (λ file. AnswersCheck file (F.bytes_at files.old certificate.now) answer.text.items answer.status)) }
 {
     match open_development(alloc, files, development)? {
         Ok(development) => {

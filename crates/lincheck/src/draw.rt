@@ -1,9 +1,13 @@
 //! The command `draw`.
-ghost use Rattle.std.specs.Prelude.{◌≡◌, IfOk, IfSome, IsErr};
+ghost use Rattle.std.specs.Prelude.{◌≡◌, IfOk, IsErr};
+ghost use Rattle.lc_draw.specs.Drawings.{IsDrawing};
+ghost use Rattle.lc_hist.specs.Histories.{events_in};
+ghost use Rattle.lc_hist.specs.JsonHistories.{entries_view};
 ghost use Rattle.lc_seq.specs.TextView.{specification_of};
 ghost use Rattle.lc_words.specs.Tasks.{DrawHistory};
 ghost use Rattle.lincheck.specs.Draw.{AnswersDraw, AnswersDrawn};
 ghost use Rattle.lincheck.specs.Execution.{IsUnread};
+ghost use Rattle.lincheck.specs.Reading.{OfFile};
 
 use crate::answer::{Answer, Failure, SUCCESS, told_fault};
 use crate::files::Files;
@@ -11,22 +15,32 @@ use crate::judge::spec_fed;
 use crate::reading::{feed_forms, read_file};
 use lc_base::OutOfMemory;
 use lc_draw::drawing;
-use lc_hist::history_from_json;
-use lc_seq::TextSpec;
+use lc_hist::{Done, History, history_from_json};
+use lc_seq::{Pick, TextCall, TextSpec};
 use std::alloc::Global;
+
+/// The drawing of a history with an order.
+fn drawn(
+    alloc: Global,
+    spec: &TextSpec,
+    history: &History,
+    order: &[Done<TextCall, Pick, Vec<i64>>],
+) -> Result<Answer, OutOfMemory>
+    ensures { IfOk result (λ answer. IsDrawing (events_in history.now) (entries_view order.now) answer.text.items × (answer.status ≡ 0)) }
+{
+    Ok(Answer {
+        text: drawing(alloc, spec, history, order)?.into_bytes(),
+        status: SUCCESS,
+        why: None,
+    })
+}
 
 /// The picture of the history that a text says, by a specification; else the answer that tells the first item that is wrong.
 fn picture_of(alloc: Global, spec: &TextSpec, bytes: &[u8]) -> Result<Answer, OutOfMemory>
     ensures { IfOk result (λ answer. AnswersDrawn (specification_of spec.now) bytes.now answer.text.items answer.status) }
 {
     match history_from_json(alloc, spec, bytes) {
-        Ok((history, order)) => {
-            Ok(Answer {
-                text: drawing(alloc, spec, &history, &order)?.into_bytes(),
-                status: SUCCESS,
-                why: None,
-            })
-        }
+        Ok((history, order)) => drawn(alloc, spec, &history, &order),
         Err(fault) => told_fault(alloc, fault),
     }
 }
@@ -39,7 +53,7 @@ fn answer_drawn<'a, F: Files>(
     path: &'a str,
 ) -> Result<Answer, Failure<'a>>
     ensures unread { F.CannotOpen files.old path.now → IsErr result }
-    ensures answers { IfOk result (λ answer. IfSome (F.bytes_at files.old path.now) (λ file. AnswersDrawn (specification_of spec.now) file answer.text.items answer.status)) }
+    ensures answers { IfOk result (λ answer. OfFile (F.bytes_at files.old path.now) (λ file. AnswersDrawn (specification_of spec.now) file answer.text.items answer.status)) }
 {
     let bytes = read_file(alloc, files, path)?;
     Ok(picture_of(alloc, spec, &bytes)?)
@@ -54,7 +68,7 @@ pub fn answer_draw<'a, F: Files>(
     history: &'a str,
 ) -> Result<Answer, Failure<'a>>
     ensures unread { IsUnread (F.CannotOpen files.old) (F.bytes_at files.old) (DrawHistory development.now history.now) → IsErr result }
-    ensures answers { IfOk result (λ answer. IfSome (F.bytes_at files.old development.now) (λ file. AnswersDraw file (F.bytes_at files.old history.now) answer.text.items answer.status)) }
+    ensures answers { IfOk result (λ answer. OfFile (F.bytes_at files.old development.now) (λ file. AnswersDraw file (F.bytes_at files.old history.now) answer.text.items answer.status)) }
 {
     let reader = feed_forms(alloc, files, development)?;
     match spec_fed(alloc, reader) {

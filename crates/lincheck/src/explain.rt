@@ -1,437 +1,459 @@
-//! Why a file is refused, in words, on standard error: the file is read once more. What is said changes neither what is printed on
-//! standard output nor the status, and nothing is said if a file can no longer be read.
-use crate::answer::{Failure, Why};
-use crate::files::Files;
-use crate::reading::read_file;
+//! What is said on standard error beside an answer: why a file is refused, from what was kept when it was read, and why no proof was
+//! found. It changes neither what is printed on standard output nor the status.
+use crate::answer::Why;
+use crate::kept::Texts;
+use crate::telling::Heard;
 use lc_base::{Fault, OutOfMemory, Refusal};
-use lc_carry::carried_entries;
-use lc_cert::certificate_of;
 use lc_cond::Numbering;
-use lc_explain::{FileKind, explanation};
+use lc_explain::{FileKind, report};
 use lc_explain_cert::{
-    certificate_explanation, proof_explanation, unfound_explanation, unproved_conditions,
+    Missed, Source, certificate_explanation, condition_explanation, lints, proof_explanation,
+    unfound_conditions, unfound_explanation, unproved_conditions,
 };
-use lc_explain_hist::history_explanation;
+use lc_explain_hist::{history_explanation, recorded_explanation, unordered_explanation};
+use lc_hints::{Hints, hints_of};
 use lc_outline::Development;
 use lc_outline_text::development_of;
+use lc_seq::TextSpec;
 use lc_spec_text::spec_of;
-use lc_words::{Asked, Request};
+use lc_words::{Asked, Chosen, Request};
 use std::alloc::Global;
 use std::io::Write;
 
-/// What is said, if anything is.
-type Said<'a> = Result<Option<Vec<u8>>, Failure<'a>>;
-
-/// A file as it was read.
-struct Text<'a> {
-    path: &'a str,
-    bytes: Vec<u8>,
-}
-
-impl Drop for Text<'_> {
-    fn drop(self) {
-        let Text { path: _, bytes: _ } = self;
-    }
-}
-
-impl<'a> Text<'a> {
-    /// The file at a path.
-    fn read<F: Files>(
-        alloc: Global,
-        files: &mut F,
-        path: &'a str,
-    ) -> Result<Text<'a>, Failure<'a>> {
-        let bytes = read_file(alloc, files, path)?;
-        Ok(Text { path, bytes })
-    }
-
-    /// What is said of a refusal that tells an offset or an item of the file.
-    fn told(&self, alloc: Global, kind: FileKind, refusal: &Refusal) -> Said<'a> {
-        Ok(explanation(alloc, self.path, kind, &self.bytes, refusal)?)
-    }
-}
-
-/// What is said about a file when a refusal has an offset or an item of it.
-fn file_told<'a, F: Files>(
-    alloc: Global,
-    files: &mut F,
+/// A file that a command reads.
+#[derive(Clone, Copy)]
+struct NamedFile<'a> {
     path: &'a str,
     kind: FileKind,
-    refusal: &Refusal,
-) -> Said<'a> {
-    let file = Text::read(alloc, files, path)?;
-    file.told(alloc, kind, refusal)
 }
 
-/// The development in the file at a path, if it is one.
-fn development_at<'a, F: Files>(
-    alloc: Global,
-    files: &mut F,
-    path: &'a str,
-) -> Result<Option<Development>, Failure<'a>> {
-    let bytes = read_file(alloc, files, path)?;
-    match development_of(alloc, &bytes) {
+/// The file at a path that is read as this kind.
+fn named(path: &str, kind: FileKind) -> Option<NamedFile<'_>> {
+    Some(NamedFile { path, kind })
+}
+
+/// The first file that a command reads.
+fn first_file(request: Request<'_>) -> Option<NamedFile<'_>> {
+    match request {
+        Request::Formula(path) => named(path, FileKind::Formula),
+        Request::Judge { development, .. }
+        | Request::Draw { development, .. }
+        | Request::Order { development, .. } => named(development, FileKind::Specification),
+        Request::Show { development, .. }
+        | Request::Conditions { development, .. }
+        | Request::Check { development, .. }
+        | Request::Prove { development, .. }
+        | Request::Run { development, .. } => named(development, FileKind::Development),
+        Request::Carry { old, .. } => named(old, FileKind::Development),
+        Request::New(_) | Request::Library { .. } => None,
+    }
+}
+
+/// The second file that a command reads.
+fn second_file(request: Request<'_>) -> Option<NamedFile<'_>> {
+    match request {
+        Request::Judge { history, .. }
+        | Request::Draw { history, .. }
+        | Request::Order { history, .. } => named(history, FileKind::History),
+        Request::Check { certificate, .. }
+        | Request::Run { certificate, .. }
+        | Request::Carry { certificate, .. } => named(certificate, FileKind::Certificate),
+        Request::Prove { hints, .. } => named(hints?, FileKind::Hints),
+        _ => None,
+    }
+}
+
+/// The third file that a command reads, or the fourth.
+fn further_file(request: Request<'_>, place: usize) -> Option<NamedFile<'_>> {
+    match (request, place) {
+        (Request::Run { plan, .. }, 2) => named(plan, FileKind::Plan),
+        (Request::Carry { new, .. }, 2) => named(new, FileKind::Development),
+        (Request::Carry { hints, .. }, 3) => named(hints?, FileKind::Hints),
+        _ => None,
+    }
+}
+
+/// The file that a command reads after `place` others.
+fn file_at(request: Request<'_>, place: usize) -> Option<NamedFile<'_>> {
+    match place {
+        0 => first_file(request),
+        1 => second_file(request),
+        _ => further_file(request, place),
+    }
+}
+
+/// The development that a text says, if it says one.
+fn development_in(alloc: Global, text: &[u8]) -> Result<Option<Development>, OutOfMemory> {
+    match development_of(alloc, text) {
         Ok(development) => Ok(Some(development)),
         Err(Fault::Refused(_)) => Ok(None),
-        Err(Fault::OutOfMemory) => Err(Failure::OutOfMemory),
+        Err(Fault::OutOfMemory) => Err(OutOfMemory),
     }
 }
 
-/// What is said of a formula file.
-fn formula_told<'a, F: Files>(
-    alloc: Global,
-    files: &mut F,
-    path: &'a str,
-    refusal: &Refusal,
-) -> Said<'a> {
-    let file = Text::read(alloc, files, path)?;
-    match file.told(alloc, FileKind::Formula, refusal)? {
-        Some(text) => Ok(Some(text)),
-        None => Ok(proof_explanation(alloc, path, &file.bytes, refusal)?),
+/// The specification that a text begins with, if it begins with one.
+fn spec_in(alloc: Global, text: &[u8]) -> Result<Option<TextSpec>, OutOfMemory> {
+    match spec_of(alloc, text) {
+        Ok(spec) => Ok(Some(spec)),
+        Err(Fault::Refused(_)) => Ok(None),
+        Err(Fault::OutOfMemory) => Err(OutOfMemory),
     }
 }
 
-/// What is said of a history, which is read for a specification; or of the specification.
-fn history_told<'a, F: Files>(
+/// What is said of a history, which was read for the specification in the first file; of one that is only recorded, for `order`.
+fn history_told(
     alloc: Global,
-    files: &mut F,
-    development: &'a str,
-    history: &'a str,
+    request: Request<'_>,
+    texts: &Texts,
+    path: &str,
+    bytes: &[u8],
     refusal: &Refusal,
-) -> Said<'a> {
-    let file = Text::read(alloc, files, development)?;
-    match spec_of(alloc, &file.bytes) {
-        Ok(spec) => {
-            let file = Text::read(alloc, files, history)?;
-            let text = history_explanation(alloc, history, &spec, &file.bytes, refusal)?;
-            Ok(Some(text))
-        }
-        Err(Fault::Refused(_)) => file.told(alloc, FileKind::Specification, refusal),
-        Err(Fault::OutOfMemory) => Err(Failure::OutOfMemory),
-    }
-}
-
-/// What is said of a certificate, which is read for a development; or of the development.
-fn certificate_told<'a, F: Files>(
-    alloc: Global,
-    files: &mut F,
-    development: &'a str,
-    certificate: &'a str,
-    refusal: &Refusal,
-) -> Said<'a> {
-    let Some(read) = development_at(alloc, files, development)? else {
-        return file_told(alloc, files, development, FileKind::Development, refusal);
+) -> Result<Option<Vec<u8>>, OutOfMemory> {
+    let Some(spec) = spec_in(alloc, texts.text(0))? else {
+        return Ok(None);
     };
-    let file = Text::read(alloc, files, certificate)?;
-    match file.told(alloc, FileKind::Certificate, refusal)? {
-        Some(text) => Ok(Some(text)),
-        None => {
-            let bytes = &file.bytes;
-            let text = certificate_explanation(alloc, certificate, &read, bytes, refusal)?;
-            Ok(text)
-        }
-    }
-}
-
-/// What is said of hints, which are read for a development, if there is a path of such; or of the development.
-fn hints_told<'a, F: Files>(
-    alloc: Global,
-    files: &mut F,
-    development: &'a str,
-    hints: Option<&'a str>,
-    refusal: &Refusal,
-) -> Said<'a> {
-    let Some(path) = hints else {
-        return file_told(alloc, files, development, FileKind::Development, refusal);
+    let text = if matches!(request, Request::Order { .. }) {
+        recorded_explanation(alloc, path, &spec, bytes, refusal)?
+    } else {
+        history_explanation(alloc, path, &spec, bytes, refusal)?
     };
-    match development_at(alloc, files, development)? {
-        Some(_) => file_told(alloc, files, path, FileKind::Hints, refusal),
-        None => file_told(alloc, files, development, FileKind::Development, refusal),
-    }
+    Ok(Some(text))
 }
 
-/// Whether a refusal is of the text of another file than a certificate.
-fn is_of_a_text(refusal: &Refusal) -> bool {
-    matches!(
-        refusal,
-        Refusal::Text(_)
-            | Refusal::Shape(_)
-            | Refusal::Unknown(_)
-            | Refusal::Repeated(_)
-            | Refusal::Auxiliary(_)
-            | Refusal::Bound(_)
-    )
-}
-
-/// The files of `carry`.
-#[derive(Clone, Copy)]
-struct Carried<'a> {
-    old: &'a str,
-    certificate: &'a str,
-    new: &'a str,
-    hints: Option<&'a str>,
-}
-
-/// What is said of the file of `carry` that is refused.
-fn carry_told<'a, F: Files>(
+/// What is said of a recorded history of which no order linearizes the first `count` events.
+fn unordered_told(
     alloc: Global,
-    files: &mut F,
-    paths: Carried<'a>,
-    refusal: &Refusal,
-) -> Said<'a> {
-    if !is_of_a_text(refusal) {
-        return certificate_told(alloc, files, paths.old, paths.certificate, refusal);
-    }
-    match development_at(alloc, files, paths.old)? {
-        Some(_) => hints_told(alloc, files, paths.new, paths.hints, refusal),
-        None => file_told(alloc, files, paths.old, FileKind::Development, refusal),
-    }
+    request: Request<'_>,
+    texts: &Texts,
+    count: u64,
+) -> Result<Option<Vec<u8>>, OutOfMemory> {
+    let Request::Order { history, .. } = request else {
+        return Ok(None);
+    };
+    let Some(spec) = spec_in(alloc, texts.text(0))? else {
+        return Ok(None);
+    };
+    let text = unordered_explanation(alloc, history, &spec, texts.text(1), count)?;
+    Ok(Some(text))
 }
 
-/// The files of `run`.
-#[derive(Clone, Copy)]
-struct Planned<'a> {
-    development: &'a str,
-    certificate: &'a str,
-    plan: &'a str,
-}
-
-/// What is said of the file of `run` that is refused.
-fn run_told<'a, F: Files>(
+/// What is said of a certificate, which was read for the development in `source`.
+fn certificate_told(
     alloc: Global,
-    files: &mut F,
-    paths: Planned<'a>,
+    source: Source<'_>,
+    path: &str,
+    bytes: &[u8],
     refusal: &Refusal,
-) -> Said<'a> {
-    let development = paths.development;
-    if !is_of_a_text(refusal) {
-        return certificate_told(alloc, files, development, paths.certificate, refusal);
-    }
-    match development_at(alloc, files, development)? {
-        Some(_) => file_told(alloc, files, paths.plan, FileKind::Plan, refusal),
-        None => file_told(alloc, files, development, FileKind::Development, refusal),
+) -> Result<Option<Vec<u8>>, OutOfMemory> {
+    match development_in(alloc, source.bytes)? {
+        Some(development) => {
+            certificate_explanation(alloc, path, source, &development, bytes, refusal)
+        }
+        None => Ok(None),
     }
 }
 
-/// What is said about a request when one of its files is refused.
-fn refused_told<'a, F: Files>(
+/// The first file that a command reads.
+fn source_of<'a>(request: Request<'a>, texts: &'a Texts) -> Source<'a> {
+    let path = match first_file(request) {
+        Some(file) => file.path,
+        None => "",
+    };
+    Source {
+        path,
+        bytes: texts.text(0),
+    }
+}
+
+/// What is said of a file that is refused: where, and why.
+fn file_told(
     alloc: Global,
-    files: &mut F,
-    request: Request<'a>,
+    request: Request<'_>,
+    texts: &Texts,
+    file: NamedFile<'_>,
+    bytes: &[u8],
     refusal: &Refusal,
-) -> Said<'a> {
-    match request {
-        Request::Formula(path) => formula_told(alloc, files, path, refusal),
-        Request::Judge {
-            development,
-            history,
+) -> Result<Option<Vec<u8>>, OutOfMemory> {
+    let NamedFile { path, kind } = file;
+    if kind == FileKind::History {
+        return history_told(alloc, request, texts, path, bytes, refusal);
+    }
+    if let Some(text) = report(alloc, path, kind, bytes, refusal)? {
+        return Ok(Some(text));
+    }
+    match kind {
+        FileKind::Formula => proof_explanation(alloc, path, bytes, refusal),
+        FileKind::Certificate => {
+            certificate_told(alloc, source_of(request, texts), path, bytes, refusal)
         }
-        | Request::Draw {
-            development,
-            history,
-        } => history_told(alloc, files, development, history, refusal),
-        Request::Show { development, .. } | Request::Conditions { development, .. } => {
-            file_told(alloc, files, development, FileKind::Development, refusal)
-        }
-        Request::Check {
-            development,
-            certificate,
-            ..
-        } => certificate_told(alloc, files, development, certificate, refusal),
-        Request::Prove {
-            development,
-            hints,
-            ..
-        } => hints_told(alloc, files, development, hints, refusal),
-        Request::Carry {
-            old,
-            certificate,
-            new,
-            hints,
-            ..
-        } => {
-            let paths = Carried {
-                old,
-                certificate,
-                new,
-                hints,
-            };
-            carry_told(alloc, files, paths, refusal)
-        }
-        Request::Run {
-            development,
-            certificate,
-            plan,
-        } => {
-            let paths = Planned {
-                development,
-                certificate,
-                plan,
-            };
-            run_told(alloc, files, paths, refusal)
-        }
-        Request::New(_) | Request::Library { .. } => Ok(None),
+        _ => Ok(None),
     }
 }
 
-/// How many of the conditions have carried proofs, of those before the last one that has a proof.
-fn counted(alloc: Global, count: u64, carried: u64, done: u64) -> Result<String, OutOfMemory> {
-    let found = done.saturating_sub(carried);
-    let left = count.saturating_sub(done);
+/// What is said of the file that is refused: the last that was opened, since none is opened after a refusal.
+fn refused_told(
+    alloc: Global,
+    request: Request<'_>,
+    texts: &Texts,
+    refusal: &Refusal,
+) -> Result<Option<Vec<u8>>, OutOfMemory> {
+    let Some(place) = texts.count().checked_sub(1) else {
+        return Ok(None);
+    };
+    match file_at(request, place) {
+        Some(file) => file_told(alloc, request, texts, file, texts.text(place), refusal),
+        None => Ok(None),
+    }
+}
+
+/// How many of `count` conditions have carried proofs, how many have proofs that were found, and how many are left, if those before
+/// `until` have proofs.
+fn counts_told(
+    alloc: Global,
+    count: u64,
+    until: u64,
+    heard: &Heard,
+) -> Result<String, OutOfMemory> {
+    let carried = heard.carried_before(until);
+    let found = until.saturating_sub(carried);
+    let left = count.saturating_sub(until);
     let text = format!(in alloc;
         "of {count} conditions {carried} have carried proofs, {found} have proofs that were found, and {left} are left\n"
     )?;
     Ok(text)
 }
 
-/// How many conditions have proofs of an old development, before the one with a number, and how many others are before and after it.
-fn count_told<'a>(
+/// How many proofs were carried to a development, if the conditions before `until` have proofs, or all of them.
+fn carried_told(
     alloc: Global,
-    old: &Development,
-    cert: &[u8],
-    new: &Development,
+    development: &Development,
     until: Option<u64>,
-) -> Said<'a> {
-    let certificate = match certificate_of(alloc, old, cert) {
-        Ok(certificate) => certificate,
-        Err(Fault::Refused(_)) => return Ok(None),
-        Err(Fault::OutOfMemory) => return Err(Failure::OutOfMemory),
-    };
-    let entries = carried_entries(alloc, old, &certificate, new)?;
-    let count = Numbering::new(alloc, new)?.count();
-    let done = until.unwrap_or(count);
-    let carried = entries.iter().filter(|entry| entry.number < done).count() as u64;
-    let text = counted(alloc, count, carried, done)?;
-    Ok(Some(text.into_bytes()))
+    heard: &Heard,
+) -> Result<String, OutOfMemory> {
+    let count = Numbering::new(alloc, development)?.count();
+    counts_told(alloc, count, until.unwrap_or(count), heard)
 }
 
-/// How many proofs were carried, up to the condition of a number.
-fn carried_told<'a, F: Files>(
+/// The development for which a certificate was sought, and the place of its text among those that were read.
+fn sought_in(request: Request<'_>) -> Option<(&str, usize)> {
+    match request {
+        Request::Prove { development, .. } => Some((development, 0)),
+        Request::Carry { new, .. } => Some((new, 2)),
+        _ => None,
+    }
+}
+
+/// What is said of a certificate that was sought: what is seldom meant in the development; that no proof was found of the condition of a
+/// number, if one is given; and how many proofs were carried.
+fn sought_told(
     alloc: Global,
-    files: &mut F,
-    paths: Carried<'a>,
-    until: Option<u64>,
-) -> Said<'a> {
-    let Some(old) = development_at(alloc, files, paths.old)? else {
+    request: Request<'_>,
+    texts: &Texts,
+    unfound: Option<u64>,
+    heard: &Heard,
+) -> Result<Option<Vec<u8>>, OutOfMemory> {
+    let Some((path, place)) = sought_in(request) else {
         return Ok(None);
     };
-    let cert = read_file(alloc, files, paths.certificate)?;
-    match development_at(alloc, files, paths.new)? {
-        Some(new) => count_told(alloc, &old, &cert, &new, until),
+    let bytes = texts.text(place);
+    let Some(development) = development_in(alloc, bytes)? else {
+        return Ok(None);
+    };
+    let source = Source { path, bytes };
+    let mut text = lints(alloc, source, &development)?;
+    if let Some(number) = unfound {
+        let ending = heard.ending();
+        let said = unfound_explanation(alloc, source, &development, number, ending)?;
+        text.extend_from_slice(&said)?;
+    }
+    if matches!(request, Request::Carry { .. }) {
+        let said = carried_told(alloc, &development, unfound, heard)?;
+        text.extend_from_slice(said.as_bytes())?;
+    }
+    Ok(Some(text))
+}
+
+/// What is said of a development whose certificate is accepted: what is seldom meant in it.
+fn accepted_told(
+    alloc: Global,
+    request: Request<'_>,
+    texts: &Texts,
+) -> Result<Option<Vec<u8>>, OutOfMemory> {
+    let source = source_of(request, texts);
+    match development_in(alloc, source.bytes)? {
+        Some(development) => Ok(Some(lints(alloc, source, &development)?)),
         None => Ok(None),
     }
 }
 
-/// What the condition asks for which no proof was found.
-fn unfound_told<'a, F: Files>(
+/// What is said of a condition that is printed: its places in the file, and its hypotheses by the names of the file.
+fn condition_told(
     alloc: Global,
-    files: &mut F,
-    development: &'a str,
+    request: Request<'_>,
+    texts: &Texts,
     number: u64,
-) -> Said<'a> {
-    let Some(development) = development_at(alloc, files, development)? else {
+) -> Result<Option<Vec<u8>>, OutOfMemory> {
+    let source = source_of(request, texts);
+    match development_in(alloc, source.bytes)? {
+        Some(development) => {
+            let text = condition_explanation(alloc, source, &development, number)?;
+            Ok(Some(text))
+        }
+        None => Ok(None),
+    }
+}
+
+/// The names of the points of a development, with commas between them.
+fn point_names(alloc: Global, development: &Development) -> Result<String, OutOfMemory> {
+    let mut text = String::new(alloc);
+    for point in &development.parts().object.parts().points {
+        if !text.is_empty() {
+            text.push_str(", ")?;
+        }
+        text.push_str(point.name.as_str())?;
+    }
+    Ok(text)
+}
+
+/// What is said if conditions are asked for of a point that the development does not have.
+fn no_point_told(
+    alloc: Global,
+    request: Request<'_>,
+    texts: &Texts,
+) -> Result<Option<Vec<u8>>, OutOfMemory> {
+    let Request::Conditions {
+        chosen: Chosen::Those {
+            point: Some(name),
+            ..
+        },
+        ..
+    } = request
+    else {
         return Ok(None);
     };
-    match unfound_explanation(alloc, &development, number)? {
-        Some(text) => Ok(Some(text.into_bytes())),
-        None => Ok(None),
+    let Some(development) = development_in(alloc, texts.text(0))? else {
+        return Ok(None);
+    };
+    let names = point_names(alloc, &development)?;
+    let text = format!(in alloc; "lincheck: no point is named {name}; the points are {names}\n")?;
+    Ok(Some(text.into_bytes()))
+}
+
+/// What is said of a request that did what it is for.
+fn answered_told(
+    alloc: Global,
+    request: Request<'_>,
+    texts: &Texts,
+    heard: &Heard,
+) -> Result<Option<Vec<u8>>, OutOfMemory> {
+    match request {
+        Request::Prove { .. } | Request::Carry { .. } => {
+            sought_told(alloc, request, texts, None, heard)
+        }
+        Request::Check { .. } => accepted_told(alloc, request, texts),
+        Request::Conditions {
+            chosen: Chosen::Number(number),
+            ..
+        } => condition_told(alloc, request, texts, number),
+        _ => Ok(None),
+    }
+}
+
+/// What is said of a request, for this reason, if there is one.
+fn why_told(
+    alloc: Global,
+    request: Request<'_>,
+    why: Option<Why>,
+    texts: &Texts,
+    heard: &Heard,
+) -> Result<Option<Vec<u8>>, OutOfMemory> {
+    match why {
+        Some(Why::Refused(refusal)) => refused_told(alloc, request, texts, &refusal),
+        Some(Why::Unfound(number)) => sought_told(alloc, request, texts, Some(number), heard),
+        Some(Why::Unordered(count)) => unordered_told(alloc, request, texts, count),
+        Some(Why::NoPoint) => no_point_told(alloc, request, texts),
+        None => answered_told(alloc, request, texts, heard),
     }
 }
 
 /// Of each condition that a certificate does not prove why it does not.
-fn unproved_told<'a, F: Files>(
-    alloc: Global,
-    files: &mut F,
-    development: &'a str,
-    certificate: &'a str,
-) -> Said<'a> {
-    let Some(development) = development_at(alloc, files, development)? else {
-        return Ok(None);
-    };
-    let bytes = read_file(alloc, files, certificate)?;
-    let text = unproved_conditions(alloc, &development, &bytes)?;
-    Ok(Some(text.into_bytes()))
+fn unproved_told(alloc: Global, texts: &Texts) -> Result<Option<Vec<u8>>, OutOfMemory> {
+    match development_in(alloc, texts.text(0))? {
+        Some(development) => {
+            let text = unproved_conditions(alloc, &development, texts.text(1))?;
+            Ok(Some(text.into_bytes()))
+        }
+        None => Ok(None),
+    }
 }
 
-/// Says it. A fault of reading, of memory or of writing changes nothing.
-fn say<E: Write>(err: &mut E, said: Said<'_>) {
+/// The hints in a text for a development; none if it says no hints.
+fn hints_from(alloc: Global, development: &Development, text: &[u8]) -> Result<Hints, OutOfMemory> {
+    match hints_of(alloc, development, text) {
+        Ok(hints) => Ok(hints),
+        Err(Fault::Refused(_)) => Ok(Hints::new(alloc)),
+        Err(Fault::OutOfMemory) => Err(OutOfMemory),
+    }
+}
+
+/// For which conditions no proof is found, if `number` is the first.
+fn misses_told(
+    alloc: Global,
+    asked: &Asked<'_>,
+    number: u64,
+    texts: &Texts,
+    heard: &Heard,
+) -> Result<Option<Vec<u8>>, OutOfMemory> {
+    let source = source_of(asked.request, texts);
+    let Some(development) = development_in(alloc, source.bytes)? else {
+        return Ok(None);
+    };
+    let hints = hints_from(alloc, &development, texts.text(1))?;
+    let ending = heard.ending();
+    let first = Missed { number, ending };
+    let full = asked.is_explained;
+    let text = unfound_conditions(alloc, source, &development, &hints, first, full)?;
+    Ok(Some(text))
+}
+
+/// Whether all that is missing is asked for.
+fn is_of_all(request: Request<'_>) -> bool {
+    matches!(
+        request,
+        Request::Check { all: true, .. } | Request::Prove { all: true, .. }
+    )
+}
+
+/// Says it. A fault of memory or of writing changes nothing.
+fn say<E: Write>(err: &mut E, said: Result<Option<Vec<u8>>, OutOfMemory>) {
     if let Ok(Some(text)) = said {
         let _ = err.write_all(&text);
     }
 }
 
-/// Says how far the certificate of a new development came from that of the old one.
-fn explain_carried<F: Files, E: Write>(
-    alloc: Global,
-    request: Request<'_>,
-    until: Option<u64>,
-    files: &mut F,
-    err: &mut E,
-) {
-    if let Request::Carry {
-        old,
-        certificate,
-        new,
-        hints,
-        ..
-    } = request
-    {
-        let paths = Carried {
-            old,
-            certificate,
-            new,
-            hints,
-        };
-        say(err, carried_told(alloc, files, paths, until));
-    }
+/// Whether what is read of files is kept: if something may be said of it.
+pub fn is_kept(asked: &Asked<'_>) -> bool {
+    asked.is_explained || is_of_all(asked.request)
 }
 
-/// Says why a request did not do what it is for.
-fn explain_why<F: Files, E: Write>(
-    alloc: Global,
-    request: Request<'_>,
-    why: Option<Why>,
-    files: &mut F,
-    err: &mut E,
-) {
-    match why {
-        Some(Why::Refused(refusal)) => say(err, refused_told(alloc, files, request, &refusal)),
-        Some(Why::Unfound(number)) => {
-            if let Request::Prove { development, .. }
-            | Request::Carry {
-                new: development,
-                ..
-            } = request
-            {
-                say(err, unfound_told(alloc, files, development, number));
-            }
-            explain_carried(alloc, request, Some(number), files, err);
-        }
-        None => explain_carried(alloc, request, None, files, err),
-    }
-}
-
-/// Says on standard error what is asked to be said beside an answer: of each condition that is not proved why it is not, and where and
-/// why a file is refused, which are read once more.
-pub fn explain<F: Files, E: Write>(
+/// Says on standard error what is asked to be said beside an answer: of each condition that is not proved why it is not; where and why
+/// a file is refused; and for which conditions no proof was found.
+pub fn explain<E: Write>(
     alloc: Global,
     asked: &Asked<'_>,
     why: Option<Why>,
-    files: &mut F,
+    texts: &Texts,
+    heard: &Heard,
     err: &mut E,
 ) {
-    if let Request::Check {
-        development,
-        certificate,
-        all: true,
-        ..
-    } = asked.request
-    {
-        if why.is_some() {
-            say(err, unproved_told(alloc, files, development, certificate));
+    match (asked.request, why) {
+        (Request::Check { all: true, .. }, Some(_)) => say(err, unproved_told(alloc, texts)),
+        (Request::Prove { all: true, .. }, Some(Why::Unfound(number))) => {
+            return say(err, misses_told(alloc, asked, number, texts, heard));
         }
+        _ => {}
     }
     if asked.is_explained {
-        explain_why(alloc, asked.request, why, files, err);
+        say(err, why_told(alloc, asked.request, why, texts, heard));
     }
 }

@@ -1,8 +1,9 @@
 //! The command `formula`.
-ghost use Rattle.std.specs.Prelude.{◌≡◌, ℕ, List, IfOk, IfSome, IsErr};
+ghost use Rattle.std.specs.Prelude.{◌≡◌, ℕ, List, IfOk, IsErr};
 ghost use Rattle.lc_sexp.specs.Reads.{ReadsAs};
 ghost use Rattle.lc_sexp.specs.Pieces.{WasFed};
 ghost use Rattle.lincheck.specs.Formula.{IsVerdict, AnswersFormula, fault_of};
+ghost use Rattle.lincheck.specs.Reading.{OfFile};
 
 use crate::answer::{Answer, Failure, told};
 use crate::files::Files;
@@ -68,7 +69,7 @@ pub fn answer_formula<'a, F: Files>(
     path: &'a str,
 ) -> Result<Answer, Failure<'a>>
     ensures unread { F.CannotOpen files.old path.now → IsErr result }
-    ensures answers { IfOk result (λ answer. IfSome (F.bytes_at files.old path.now) (λ file. AnswersFormula file answer.text.items answer.status)) }
+    ensures answers { IfOk result (λ answer. OfFile (F.bytes_at files.old path.now) (λ file. AnswersFormula file answer.text.items answer.status)) }
 {
     let reader = feed_forms(alloc, files, path)?;
     let verdict = check_fed(alloc, reader);

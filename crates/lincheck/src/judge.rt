@@ -1,5 +1,5 @@
 //! The command `judge`.
-ghost use Rattle.std.specs.Prelude.{◌≡◌, ℕ, List, IfOk, IfSome, IsErr};
+ghost use Rattle.std.specs.Prelude.{◌≡◌, ℕ, List, IfOk, IsErr};
 ghost use Rattle.lc_sexp.specs.Pieces.{WasFed};
 ghost use Rattle.lc_reading.specs.Files.{IsAnswerTo};
 ghost use Rattle.lc_seq.specs.TextView.{specification_of};
@@ -7,6 +7,7 @@ ghost use Rattle.lc_spec_text.specs.Specifications.{first_reading};
 ghost use Rattle.lc_words.specs.Tasks.{JudgeHistory};
 ghost use Rattle.lincheck.specs.Execution.{IsUnread};
 ghost use Rattle.lincheck.specs.Judge.{AnswersHistory, AnswersJudge, IsJudgement, ToldJudgement, judgement_of};
+ghost use Rattle.lincheck.specs.Reading.{OfFile};
 
 use crate::answer::{Answer, Failure, REFUSED, told, told_fault};
 use crate::files::Files;
@@ -74,7 +75,7 @@ fn answer_history<'a, F: Files>(
     path: &'a str,
 ) -> Result<Answer, Failure<'a>>
     ensures unread { F.CannotOpen files.old path.now → IsErr result }
-    ensures answers { IfOk result (λ answer. IfSome (F.bytes_at files.old path.now) (λ file. AnswersHistory (specification_of spec.now) file answer.text.items answer.status)) }
+    ensures answers { IfOk result (λ answer. OfFile (F.bytes_at files.old path.now) (λ file. AnswersHistory (specification_of spec.now) file answer.text.items answer.status)) }
 {
     let bytes = read_file(alloc, files, path)?;
     let judgement = judge_history(alloc, spec, &bytes);
@@ -98,7 +99,7 @@ pub fn answer_judge<'a, F: Files>(
     history: &'a str,
 ) -> Result<Answer, Failure<'a>>
     ensures unread { IsUnread (F.CannotOpen files.old) (F.bytes_at files.old) (JudgeHistory development.now history.now) → IsErr result }
-    ensures answers { IfOk result (λ answer. IfSome (F.bytes_at files.old development.now) (λ file. AnswersJudge file (F.bytes_at files.old history.now) answer.text.items answer.status)) }
+    ensures answers { IfOk result (λ answer. OfFile (F.bytes_at files.old development.now) (λ file. AnswersJudge file (F.bytes_at files.old history.now) answer.text.items answer.status)) }
 {
     let reader = feed_forms(alloc, files, development)?;
     match spec_fed(alloc, reader) {

@@ -1,7 +1,8 @@
 //! The command `show` with `--lines`: a development over lines.
-ghost use Rattle.std.specs.Prelude.{ℕ, List, IfOk, IfSome, IsErr};
+ghost use Rattle.std.specs.Prelude.{ℕ, List, IfOk, IsErr};
 ghost use Rattle.lc_sexp.specs.Pieces.{WasFed};
 ghost use Rattle.lincheck.specs.Lines.{AnswersLines, LaysOut};
+ghost use Rattle.lincheck.specs.Reading.{OfFile};
 
 use crate::answer::{Answer, Failure, SUCCESS, told_fault};
 use crate::files::Files;
@@ -29,7 +30,7 @@ pub fn answer_lines<'a, F: Files>(
     path: &'a str,
 ) -> Result<Answer, Failure<'a>>
     ensures unread { F.CannotOpen files.old path.now → IsErr result }
-    ensures answers { IfOk result (λ answer. IfSome (F.bytes_at files.old path.now) (λ file. AnswersLines file answer.text.items answer.status)) }
+    ensures answers { IfOk result (λ answer. OfFile (F.bytes_at files.old path.now) (λ file. AnswersLines file answer.text.items answer.status)) }
 {
     let reader = feed_forms(alloc, files, path)?;
     match laid_out_fed(alloc, reader) {

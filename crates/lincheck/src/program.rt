@@ -12,17 +12,19 @@ use crate::carry::answer_carry;
 use crate::check::answer_check;
 use crate::conditions::answer_conditions;
 use crate::draw::answer_draw;
-use crate::explain::explain;
+use crate::explain::{explain, is_kept};
 use crate::files::Files;
 use crate::formula::answer_formula;
 use crate::judge::answer_judge;
+use crate::kept::{Kept, Texts};
 use crate::library::answer_library;
 use crate::new::answer_new;
+use crate::order::{Search, answer_order};
 use crate::printing::print_told;
 use crate::prove::answer_prove;
 use crate::run::answer_run;
 use crate::show::answer_show;
-use crate::telling::Telling;
+use crate::telling::{Heard, Telling};
 use clap::error::ErrorKind;
 use lc_words::{Request, read_words};
 use std::alloc::Global;
@@ -31,8 +33,8 @@ use std::io::Write;
 use std::sync::Wait;
 use std::thread::Threads;
 
-/// Does what is asked for, prints the answer, returns its status, and hands out why it is refused. Files are opened, read and judged
-/// in the order of the command, so that none is opened after a refusal.
+/// Does what is asked for, prints the answer, returns its status, and hands out why it is refused and what the finder reported. Files
+/// are opened, read and judged in the order of the command, so that none is opened after a refusal.
 fn carry_out<'a, R: Threads + Wait + Sync, F: Files, O: Write, E: Write>(
     rt: &R,
     alloc: Global,
@@ -41,6 +43,7 @@ fn carry_out<'a, R: Threads + Wait + Sync, F: Files, O: Write, E: Write>(
     out: &mut O,
     err: &mut E,
     why: &mut Option<Why>,
+    heard: &mut Heard,
 ) -> Result<u8, Failure<'a>>
     ensures unread { IsUnread (F.CannotOpen files.old) (F.bytes_at files.old) (task_of request.entry) → IsErr result × (out.new ≡ out.old) }
     ensures leaves { Leaves (task_of request.entry) (AnswersTask (F.bytes_at files.old) (task_of request.entry)) (O.contents out.old) (O.contents out.new) result }
@@ -69,7 +72,11 @@ fn carry_out<'a, R: Threads + Wait + Sync, F: Files, O: Write, E: Write>(
             progress: is_asked,
             ..
         } => {
-            let mut telling = Telling { err, is_asked };
+            let mut telling = Telling {
+                err,
+                heard,
+                is_asked,
+            };
             let answer = answer_check(
                 rt,
                 alloc,
@@ -85,8 +92,13 @@ fn carry_out<'a, R: Threads + Wait + Sync, F: Files, O: Write, E: Write>(
             development,
             hints,
             progress: is_asked,
+            ..
         } => {
-            let mut telling = Telling { err, is_asked };
+            let mut telling = Telling {
+                err,
+                heard,
+                is_asked,
+            };
             let answer = answer_prove(alloc, files, development, hints, &mut telling)?;
             print_told(out, why, &answer)
         }
@@ -97,7 +109,11 @@ fn carry_out<'a, R: Threads + Wait + Sync, F: Files, O: Write, E: Write>(
             hints,
             progress: is_asked,
         } => {
-            let mut telling = Telling { err, is_asked };
+            let mut telling = Telling {
+                err,
+                heard,
+                is_asked,
+            };
             let answer = answer_carry(alloc, files, old, certificate, new, hints, &mut telling)?;
             print_told(out, why, &answer)
         }
@@ -114,6 +130,16 @@ fn carry_out<'a, R: Threads + Wait + Sync, F: Files, O: Write, E: Write>(
             history,
         } => {
             let answer = answer_draw(alloc, files, development, history)?;
+            print_told(out, why, &answer)
+        }
+        Request::Order {
+            development,
+            history,
+            check,
+            budget,
+        } => {
+            let search = Search { check, budget };
+            let answer = answer_order(alloc, files, development, history, search)?;
             print_told(out, why, &answer)
         }
         Request::New(name) => print_told(out, why, &answer_new(alloc, name)?),
@@ -183,9 +209,24 @@ pub fn execute<R: Threads + Wait + Sync, F: Files, O: Write, E: Write>(
         Err(error) => tell_usage(&error, out, err),
         Ok(asked) => {
             let mut why = None;
-            match carry_out(rt, alloc, asked.request, files, out, err, &mut why) {
+            let mut heard = Heard::new(alloc);
+            let mut kept = Kept {
+                files,
+                texts: Texts::new(alloc),
+                is_kept: is_kept(&asked),
+            };
+            match carry_out(
+                rt,
+                alloc,
+                asked.request,
+                &mut kept,
+                out,
+                err,
+                &mut why,
+                &mut heard,
+            ) {
                 Ok(status) => {
-                    explain(alloc, &asked, why, files, err);
+                    explain(alloc, &asked, why, &kept.texts, &heard, err);
                     status
                 }
                 Err(failure) => complain(err, &failure),

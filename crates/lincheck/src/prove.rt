@@ -1,5 +1,5 @@
 //! The command `prove`.
-ghost use Rattle.std.specs.Prelude.{◌≡◌, ℕ, List, ◌∷◌, [], IfOk, IfSome, IsErr};
+ghost use Rattle.std.specs.Prelude.{◌≡◌, ℕ, List, ◌∷◌, [], IfOk, IsErr};
 ghost use Rattle.lc_sexp.specs.Pieces.{WasFed};
 ghost use Rattle.lc_base.specs.Line.{line_of};
 ghost use Rattle.lc_term.specs.Lists.{Every};
@@ -10,6 +10,7 @@ ghost use Rattle.lc_outline.specs.DevelopmentView.{development_view};
 ghost use Rattle.lc_words.specs.Tasks.{ProveWithHints, path_in, proving};
 ghost use Rattle.lincheck.specs.Execution.{AnswersTask, IsUnread};
 ghost use Rattle.lincheck.specs.Prove.{AnswersFound, AnswersHinted, AnswersHints, AnswersProve, OpensHints, ToldFound};
+ghost use Rattle.lincheck.specs.Reading.{OfFile};
 
 use crate::answer::{Answer, Failure, REFUSED, SUCCESS, Why, told_fault};
 use crate::check::open_development;
@@ -90,7 +91,7 @@ pub fn open_hints<'a, F: Files>(
     path: &'a str,
 ) -> Result<Result<Hints, Answer>, Failure<'a>>
     ensures unread { F.CannotOpen files.old path.now → IsErr result }
-    ensures opens { IfOk result (λ opened. IfSome (F.bytes_at files.old path.now) (λ file. OpensHints (development_view development.now) file opened)) }
+    ensures opens { IfOk result (λ opened. OfFile (F.bytes_at files.old path.now) (λ file. OpensHints (development_view development.now) file opened)) }
     ensures back { IfOk result (λ opened. IfOk opened (λ hints. Every (EntryReadsBack (development_view development.now)) (proofs_in hints))) }
 {
     let reader = feed_forms(alloc, files, path)?;
@@ -109,7 +110,7 @@ fn answer_hints<'a, F: Files, P: Progress>(
     progress: &mut P,
 ) -> Result<Answer, Failure<'a>>
     ensures unread { F.CannotOpen files.old path.now → IsErr result }
-    ensures answers { IfOk result (λ answer. IfSome (F.bytes_at files.old path.now) (λ file. AnswersHints (development_view development.now) file answer.text.items answer.status)) }
+    ensures answers { IfOk result (λ answer. OfFile (F.bytes_at files.old path.now) (λ file. AnswersHints (development_view development.now) file answer.text.items answer.status)) }
 {
     match open_hints(alloc, files, development, path)? {
         Ok(hints) => Ok(answer_found(alloc, development, &hints, progress)?),
@@ -126,7 +127,7 @@ fn answer_hinted<'a, F: Files, P: Progress>(
     progress: &mut P,
 ) -> Result<Answer, Failure<'a>>
     ensures unread { IsUnread (F.CannotOpen files.old) (F.bytes_at files.old) (ProveWithHints development.now hints.now) → IsErr result }
-    ensures answers { IfOk result (λ answer. IfSome (F.bytes_at files.old development.now) (λ file. AnswersHinted file (F.bytes_at files.old hints.now) answer.text.items answer.status)) }
+    ensures answers { IfOk result (λ answer. OfFile (F.bytes_at files.old development.now) (λ file. AnswersHinted file (F.bytes_at files.old hints.now) answer.text.items answer.status)) }
 {
     match open_development(alloc, files, development)? {
         Ok(development) => answer_hints(alloc, files, &development, hints, progress),
@@ -142,7 +143,7 @@ fn answer_unhinted<'a, F: Files, P: Progress>(
     progress: &mut P,
 ) -> Result<Answer, Failure<'a>>
     ensures unread { F.CannotOpen files.old path.now → IsErr result }
-    ensures answers { IfOk result (λ answer. IfSome (F.bytes_at files.old path.now) (λ file. AnswersProve file answer.text.items answer.status)) }
+    ensures answers { IfOk result (λ answer. OfFile (F.bytes_at files.old path.now) (λ file. AnswersProve file answer.text.items answer.status)) }
 {
     match open_development(alloc, files, path)? {
         Ok(development) => {

@@ -1,12 +1,12 @@
 //! How files are read: in pieces, and no further than their limit.
-ghost use Rattle.std.specs.Prelude.{◌≡◌, ℕ, List, OnOk, IfOk, IfSome, IsErr};
+ghost use Rattle.std.specs.Prelude.{◌≡◌, ℕ, List, OnOk, IfOk, IsErr};
 ghost use Rattle.lc_sexp.specs.Pieces.{WasFed};
-ghost use Rattle.lincheck.specs.Reading.{ReadsToLimit, IsFedOn, within_limit};
+ghost use Rattle.lincheck.specs.Reading.{OfFile, ReadsToLimit, IsFedOn, within_limit};
 
 use crate::answer::Failure;
 use crate::files::Files;
 use crate::sink::Sink;
-use lc_base::FILE_LIMIT;
+use lc_base::{FILE_LIMIT, OutOfMemory};
 use lc_sexp::FormsReader;
 use std::alloc::Global;
 use std::io;
@@ -28,12 +28,32 @@ pub enum ReadFault {
     OutOfMemory,
 }
 
-/// Feeds the bytes of a file, or its first `MOST_BYTES` bytes if it has more, in pieces.
+/// Feeds the bytes that come next of a file, of which `files` takes note.
+fn take_piece<F: Files, S: Sink>(
+    files: &mut F,
+    sink: &mut S,
+    piece: &[u8],
+) -> Result<(), OutOfMemory>
+    ensures keeps { (other : List ℕ) → F.bytes_at files.new other ≡ F.bytes_at files.old other }
+    ensures closed { (other : List ℕ) → F.CannotOpen files.old other → F.CannotOpen files.new other }
+    ensures fed { OnOk result (IsFedOn S.WasFed sink.old sink.new piece.now) }
+{
+    files.note(piece)?;
+    sink.feed(piece)
+}
+
+/// Feeds the bytes of a file, or its first `MOST_BYTES` bytes if it has more, in pieces, of which `files` takes note.
 ///
 /// A read that answers `Interrupted` is tried again. Any other fault, and 33,554,432 reads that did not come to the
 /// end, are `Unreadable`.
-pub fn feed_to_limit<R: Read, S: Sink>(reader: &mut R, sink: &mut S) -> Result<(), ReadFault>
-    ensures { OnOk result ((bytes : List ℕ) × ReadsToLimit (R.remaining reader.old) (R.remaining reader.new) bytes × IsFedOn S.WasFed sink.old sink.new bytes) }
+pub fn feed_to_limit<R: Read, F: Files, S: Sink>(
+    reader: &mut R,
+    files: &mut F,
+    sink: &mut S,
+) -> Result<(), ReadFault>
+    ensures keeps { (other : List ℕ) → F.bytes_at files.new other ≡ F.bytes_at files.old other }
+    ensures closed { (other : List ℕ) → F.CannotOpen files.old other → F.CannotOpen files.new other }
+    ensures fed { OnOk result ((bytes : List ℕ) × ReadsToLimit (R.remaining reader.old) (R.remaining reader.new) bytes × IsFedOn S.WasFed sink.old sink.new bytes) }
 {
     let mut left = MOST_BYTES;
     let mut piece = [0u8; PIECE];
@@ -45,7 +65,7 @@ pub fn feed_to_limit<R: Read, S: Sink>(reader: &mut R, sink: &mut S) -> Result<(
         match reader.read(&mut piece[..room]) {
             Ok(0) => return Ok(()),
             Ok(n) => {
-                if sink.feed(&piece[..n]).is_err() {
+                if take_piece(files, sink, &piece[..n]).is_err() {
                     return Err(ReadFault::OutOfMemory);
                 }
                 left -= n;
@@ -69,13 +89,13 @@ pub fn feed_file<'a, F: Files, S: Sink>(
     ensures keeps { (other : List ℕ) → F.bytes_at files.new other ≡ F.bytes_at files.old other }
     ensures closed { (other : List ℕ) → F.CannotOpen files.old other → F.CannotOpen files.new other }
     ensures unread { F.CannotOpen files.old path.now → IsErr result }
-    ensures fed { OnOk result ((bytes : List ℕ) × IsFedOn S.WasFed sink.old sink.new bytes × IfSome (F.bytes_at files.old path.now) (λ file. bytes ≡ within_limit file)) }
+    ensures fed { OnOk result ((bytes : List ℕ) × IsFedOn S.WasFed sink.old sink.new bytes × OfFile (F.bytes_at files.old path.now) (λ file. bytes ≡ within_limit file)) }
 {
     let mut reader = match files.open(path) {
         Ok(reader) => reader,
         Err(error) => return Err(Failure::CannotRead(path, Some(error))),
     };
-    match feed_to_limit(&mut reader, sink) {
+    match feed_to_limit(&mut reader, files, sink) {
         Ok(()) => Ok(()),
         Err(ReadFault::Unreadable(reason)) => Err(Failure::CannotRead(path, reason)),
         Err(ReadFault::OutOfMemory) => Err(Failure::OutOfMemory),
@@ -91,7 +111,7 @@ pub fn feed_forms<'a, F: Files>(
     ensures keeps { (other : List ℕ) → F.bytes_at files.new other ≡ F.bytes_at files.old other }
     ensures closed { (other : List ℕ) → F.CannotOpen files.old other → F.CannotOpen files.new other }
     ensures unread { F.CannotOpen files.old path.now → IsErr result }
-    ensures fed { IfOk result (λ reader. (bytes : List ℕ) × WasFed reader bytes × IfSome (F.bytes_at files.old path.now) (λ file. bytes ≡ within_limit file)) }
+    ensures fed { IfOk result (λ reader. (bytes : List ℕ) × WasFed reader bytes × OfFile (F.bytes_at files.old path.now) (λ file. bytes ≡ within_limit file)) }
 {
     let mut reader = FormsReader::new(alloc);
     feed_file(files, path, &mut reader)?;
@@ -107,7 +127,7 @@ pub fn read_file<'a, F: Files>(
     ensures keeps { (other : List ℕ) → F.bytes_at files.new other ≡ F.bytes_at files.old other }
     ensures closed { (other : List ℕ) → F.CannotOpen files.old other → F.CannotOpen files.new other }
     ensures unread { F.CannotOpen files.old path.now → IsErr result }
-    ensures bytes { IfOk result (λ bytes. IfSome (F.bytes_at files.old path.now) (λ file. bytes.items ≡ within_limit file)) }
+    ensures bytes { IfOk result (λ bytes. OfFile (F.bytes_at files.old path.now) (λ file. bytes.items ≡ within_limit file)) }
 {
     let mut bytes = Vec::new(alloc);
     feed_file(files, path, &mut bytes)?;

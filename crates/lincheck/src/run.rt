@@ -1,5 +1,5 @@
 //! The command `run`.
-ghost use Rattle.std.specs.Prelude.{◌≡◌, ◌++◌, ℕ, List, Some, flat_map, IfOk, IfSome, IsErr, OnOk};
+ghost use Rattle.std.specs.Prelude.{◌≡◌, ◌++◌, ℕ, List, Some, flat_map, IfOk, IsErr, OnOk};
 ghost use Rattle.lc_sexp.specs.Pieces.{WasFed};
 ghost use Rattle.lc_reading.specs.Files.{IsAnswerTo};
 ghost use Rattle.lc_check.specs.VerdictView.{development_in};
@@ -8,6 +8,7 @@ ghost use Rattle.lc_plan.specs.Readings.{plan_reading};
 ghost use Rattle.lc_plan.specs.View.{plan_of};
 ghost use Rattle.lc_words.specs.Tasks.{RunPlan};
 ghost use Rattle.lincheck.specs.Execution.{AnswersTask, IsUnread};
+ghost use Rattle.lincheck.specs.Reading.{OfFile};
 ghost use Rattle.lincheck.specs.Run.{AnswersPlan, AnswersProvenRun, IsUnreadPlan, OpensAccepted, OpensPlan, RunsSo, end_text, halt_text, ran_text};
 
 use crate::answer::{Answer, Failure, SEATS_DO_NOT_MATCH, SUCCESS, told_fault};
@@ -36,7 +37,7 @@ fn accept_at<'a, F: Files>(
     ensures keeps { (other : List ℕ) → F.bytes_at files.new other ≡ F.bytes_at files.old other }
     ensures closed { (other : List ℕ) → F.CannotOpen files.old other → F.CannotOpen files.new other }
     ensures unread { F.CannotOpen files.old path.now → IsErr result }
-    ensures opens { IfOk result (λ opened. IfSome (F.bytes_at files.old path.now) (λ file. OpensAccepted (development_view development) file opened)) }
+    ensures opens { IfOk result (λ opened. OfFile (F.bytes_at files.old path.now) (λ file. OpensAccepted (development_view development) file opened)) }
 {
     let mut session = CertificateSession::new(alloc, development)?;
     feed_file(files, path, &mut session)?;
@@ -64,7 +65,7 @@ fn open_plan<'a, F: Files>(
     path: &'a str,
 ) -> Result<Result<Plan, Answer>, Failure<'a>>
     ensures unread { F.CannotOpen files.old path.now → IsErr result }
-    ensures opens { IfOk result (λ opened. IfSome (F.bytes_at files.old path.now) (λ file. OpensPlan (development_view development.now) file opened)) }
+    ensures opens { IfOk result (λ opened. OfFile (F.bytes_at files.old path.now) (λ file. OpensPlan (development_view development.now) file opened)) }
 {
     let reader = feed_forms(alloc, files, path)?;
     match plan_fed(alloc, development, reader) {
@@ -155,7 +156,7 @@ fn answer_planned<'a, R: Threads + Wait + Sync, F: Files, E: Write>(
     err: &mut E,
 ) -> Result<Answer, Failure<'a>>
     ensures unread { F.CannotOpen files.old path.now → IsErr result }
-    ensures answers { IfOk result (λ answer. IfSome (F.bytes_at files.old path.now) (λ file. AnswersPlan (development_in accepted) file answer.text.items answer.status)) }
+    ensures answers { IfOk result (λ answer. OfFile (F.bytes_at files.old path.now) (λ file. AnswersPlan (development_in accepted) file answer.text.items answer.status)) }
 {
     match open_plan(alloc, files, accepted.development(), path)? {
         Ok(plan) => Ok(answer_ran(rt, alloc, accepted, &plan, err)?),
@@ -175,7 +176,7 @@ fn answer_proven<'a, R: Threads + Wait + Sync, F: Files, E: Write>(
     err: &mut E,
 ) -> Result<Answer, Failure<'a>>
     ensures unread { IsUnreadPlan (F.CannotOpen files.old) (F.bytes_at files.old) (development_view development) certificate.now plan.now → IsErr result }
-    ensures answers { IfOk result (λ answer. IfSome (F.bytes_at files.old certificate.now) (λ file. AnswersProvenRun (development_view development) file (F.bytes_at files.old plan.now) answer.text.items answer.status)) }
+    ensures answers { IfOk result (λ answer. OfFile (F.bytes_at files.old certificate.now) (λ file. AnswersProvenRun (development_view development) file (F.bytes_at files.old plan.now) answer.text.items answer.status)) }
 {
     match accept_at(alloc, files, development, certificate)? {
         Ok(accepted) => answer_planned(rt, alloc, files, accepted, plan, err),

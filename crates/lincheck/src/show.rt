@@ -1,9 +1,10 @@
 //! The command `show`.
-ghost use Rattle.std.specs.Prelude.{IfOk, IfSome, IsErr};
+ghost use Rattle.std.specs.Prelude.{IfOk, IsErr};
 ghost use Rattle.lc_outline_print.specs.Developments.{development_printed};
 ghost use Rattle.lc_words.specs.Tasks.{showing};
 ghost use Rattle.lincheck.specs.Check.{AnswersDevelopment};
 ghost use Rattle.lincheck.specs.Execution.{AnswersTask, IsUnread};
+ghost use Rattle.lincheck.specs.Reading.{OfFile};
 
 use crate::answer::{Answer, Failure, SUCCESS};
 use crate::check::open_development;
@@ -19,7 +20,7 @@ fn answer_printed<'a, F: Files>(
     path: &'a str,
 ) -> Result<Answer, Failure<'a>>
     ensures unread { F.CannotOpen files.old path.now → IsErr result }
-    ensures answers { IfOk result (λ answer. IfSome (F.bytes_at files.old path.now) (λ file. AnswersDevelopment development_printed file answer.text.items answer.status)) }
+    ensures answers { IfOk result (λ answer. OfFile (F.bytes_at files.old path.now) (λ file. AnswersDevelopment development_printed file answer.text.items answer.status)) }
 {
     match open_development(alloc, files, path)? {
         Ok(development) => Ok(Answer {

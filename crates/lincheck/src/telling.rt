@@ -2,16 +2,70 @@
 use lc_base::Fault;
 use lc_check::{Prover, prove_one};
 use lc_cond::Condition;
-use lc_find::Progress;
+use lc_explain_cert::Ending;
+use lc_find::{Cause, CounterModel, Progress};
 use lc_kernel::Proof;
 use lc_table::Terms;
 use std::alloc::Global;
 use std::io::Write;
 
-/// Says which condition is looked at, if that is asked for. A fault of writing changes nothing.
+/// What the finder reported, for those who ask for more than its answer.
+pub struct Heard {
+    /// Which conditions have a proof that was carried.
+    carried: Vec<u64>,
+    /// The model in which the search for a proof ended, if it ended in one.
+    model: Option<CounterModel>,
+    /// Why the search was given up, if it was.
+    cause: Option<Cause>,
+}
+
+impl Drop for Heard {
+    fn drop(self) {
+        let Heard {
+            carried: _,
+            model: _,
+            cause: _,
+        } = self;
+    }
+}
+
+impl Heard {
+    /// Nothing.
+    pub fn new(alloc: Global) -> Heard {
+        Heard {
+            carried: Vec::new(alloc),
+            model: None,
+            cause: None,
+        }
+    }
+
+    /// How many of the conditions before `until` have a proof that was carried.
+    pub fn carried_before(&self, until: u64) -> u64 {
+        let mut count = 0u64;
+        for number in &self.carried {
+            if *number < until {
+                count = count.saturating_add(1);
+            }
+        }
+        count
+    }
+
+    /// How the search for a proof ended that found none.
+    pub fn ending(&self) -> Ending<'_> {
+        match (&self.model, self.cause) {
+            (Some(model), _) => Ending::Model(model),
+            (None, Some(cause)) => Ending::GivenUp(cause),
+            (None, None) => Ending::Unknown,
+        }
+    }
+}
+
+/// Says which condition is looked at, if that is asked for, and takes note of what else the finder reports. A fault of writing changes
+/// nothing.
 #[derive(Drop)]
 pub struct Telling<'a, E: Write> {
     pub err: &'a mut E,
+    pub heard: &'a mut Heard,
     pub is_asked: bool,
 }
 
@@ -20,6 +74,18 @@ impl<E: Write> Progress for Telling<'_, E> {
         if self.is_asked {
             let _ = writeln!(self.err, "condition {number}");
         }
+    }
+
+    fn carried(&mut self, number: u64) {
+        let _ = self.heard.carried.push(number);
+    }
+
+    fn ended(&mut self, model: CounterModel) {
+        self.heard.model = Some(model);
+    }
+
+    fn given_up(&mut self, cause: Cause) {
+        self.heard.cause = Some(cause);
     }
 }
 

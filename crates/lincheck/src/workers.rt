@@ -1,7 +1,8 @@
 //! The command `check` with more than one worker.
-ghost use Rattle.std.specs.Prelude.{IfOk, IfSome, IsErr};
+ghost use Rattle.std.specs.Prelude.{IfOk, IsErr};
 ghost use Rattle.lc_outline.specs.DevelopmentView.{development_view};
 ghost use Rattle.lincheck.specs.Check.{AnswersCertificate};
+ghost use Rattle.lincheck.specs.Reading.{OfFile};
 
 use crate::answer::{Answer, Failure};
 use crate::check::tell_verdict;
@@ -23,7 +24,7 @@ pub(crate) fn answer_by_workers<'a, R: Threads + Wait + Sync, F: Files>(
     workers: u64,
 ) -> Result<Answer, Failure<'a>>
     ensures unread { F.CannotOpen files.old path.now → IsErr result }
-    ensures answers { IfOk result (λ answer. IfSome (F.bytes_at files.old path.now) (λ file. AnswersCertificate (development_view development) file answer.text.items answer.status)) }
+    ensures answers { IfOk result (λ answer. OfFile (F.bytes_at files.old path.now) (λ file. AnswersCertificate (development_view development) file answer.text.items answer.status)) }
 {
     let cert = read_file(alloc, files, path)?;
     let verdict = check_certificate_with(rt, alloc, development, &cert, workers, &NoGate)?;

@@ -2,11 +2,11 @@
 //! return something wrong where the call returns what is right.
 #![tactic(auto)]
 
-ghost use Rattle.std.specs.Prelude.{◌≡◌, ◌⊎◌, List, Some, codes, ℕ};
+ghost use Rattle.std.specs.Prelude.{◌≡◌, ◌⊎◌, List, None, Some, codes, false, ℕ};
 ghost use Rattle.lc_cond_text.specs.ConditionText.{conditions_text};
 ghost use Rattle.lc_lib_texts.specs.Texts.{development_bytes};
 ghost use Rattle.lc_words.specs.Reading.{AreWrong};
-ghost use Rattle.lc_words.specs.Tasks.{BeginDevelopment, CarryWithHints, CheckByWorkers, CheckCertificate, CheckFormula, DrawHistory, JudgeHistory, ListConditions, PrintLibrary, ProveWithHints, RunPlan, ShowLines, Task, texts_of};
+ghost use Rattle.lc_words.specs.Tasks.{BeginDevelopment, CarryWithHints, CheckByWorkers, CheckCertificate, CheckFormula, DrawHistory, FindOrder, JudgeHistory, ListConditions, PrintLibrary, ProveWithHints, RunPlan, ShowLines, Task, texts_of};
 ghost use Rattle.lc_words.specs.declared.request.LibraryText.TheVariants.{Development};
 ghost use Rattle.lincheck.specs.Carry.{AnswersCarry, AnswersWith};
 ghost use Rattle.lincheck.specs.Check.{AnswersCheck, AnswersDevelopment};
@@ -16,6 +16,7 @@ ghost use Rattle.lincheck.specs.Formula.{AnswersFormula};
 ghost use Rattle.lincheck.specs.Judge.{AnswersJudge};
 ghost use Rattle.lincheck.specs.Lines.{AnswersLines};
 ghost use Rattle.lincheck.specs.New.{AnswersNew};
+ghost use Rattle.lincheck.specs.Order.{AnswersOrder};
 ghost use Rattle.lincheck.specs.Prove.{AnswersHinted};
 ghost use Rattle.lincheck.specs.Run.{AnswersRun};
 ghost use Rattle.lincheck_claims.specs.Endings.{EndsWith};
@@ -58,6 +59,13 @@ impl<'a, R: Threads + Wait + Sync> Program<'a, R> {
         ensures { EndsWith (texts_of self.old.words.now) (JudgeHistory (codes "a") (codes "b")) (AnswersJudge self.old.files.0.now (Some self.old.files.1.now)) judgement.old.items judgement.new.items result }
     {
         self.execute(judgement, err)
+    }
+
+    /// `order` prints a history with an order that linearizes it, or that none does.
+    pub fn ordering_a_history(&mut self, decision: &mut Vec<u8>, err: &mut Vec<u8>) -> u8
+        ensures { EndsWith (texts_of self.old.words.now) (FindOrder (codes "a") (codes "b") false None) (AnswersOrder false self.old.files.0.now (Some self.old.files.1.now)) decision.old.items decision.new.items result }
+    {
+        self.execute(decision, err)
     }
 
     /// `conditions` prints a line for each condition of a development. On `OutOfMemory` a beginning of them may have been written.
@@ -129,6 +137,18 @@ impl<'a, R: Threads + Wait + Sync> Program<'a, R> {
         ensures { EndsWith (texts_of self.old.words.now) (PrintLibrary lib Development) (λ said status. (said ≡ development_bytes lib) × (status ≡ 0)) object.old.items object.new.items result }
     {
         self.execute(object, err)
+    }
+
+    /// `formula` prints the answer to some bytes, whatever files it is given, also those of the system.
+    pub fn checking_any_file<F: Files>(
+        &self,
+        files: &mut F,
+        reply: &mut Vec<u8>,
+        err: &mut Vec<u8>,
+    ) -> u8
+        ensures { (path : List ℕ) → EndsWith (texts_of self.now.words.now) (CheckFormula path) (λ text status. (file : List ℕ) × AnswersFormula file text status) reply.old.items reply.new.items result }
+    {
+        execute(self.rt, self.alloc, self.words, files, reply, err)
     }
 
     /// A command line fault has its status, or that of running out of memory; nothing is printed, and no file is opened.

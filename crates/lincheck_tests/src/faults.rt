@@ -18,6 +18,8 @@ const PROVE: [&str; 3] = ["lincheck", "prove", "a"];
 
 const JUDGE: [&str; 4] = ["lincheck", "judge", "a", "b"];
 
+const EXPLAINED: [&str; 5] = ["lincheck", "judge", "a", "b", "--explain"];
+
 /// What `formula` answers to `count` spaces.
 fn check_spaces<R: Threads + Wait + Sync>(
     rt: &R,
@@ -105,9 +107,21 @@ fn missing_history_is_told<R: Threads + Wait + Sync>(
     Ok(ended.is(3, "", "lincheck: cannot read b\n  entity not found\n") & (files.opened == 2))
 }
 
+/// What is said of a refusal is said of what was read: no file is opened once more.
+fn refusals_are_explained_as_read<R: Threads + Wait + Sync>(
+    rt: &R,
+    alloc: Global,
+) -> Result<bool, AllocError> {
+    let mut files = Folder::of(Some(File::new("(object)", End::Ends)));
+    let ended = run(rt, alloc, EXPLAINED.as_slice(), &mut files)?;
+    let first = b"a:1:1: error: ".as_slice();
+    Ok((ended.status == 1) & ended.err.as_slice().starts_with(first) & (files.opened == 1))
+}
+
 #[test]
 fn files_that_are_opened(rt: HostRuntime) -> Result<(), Fail> {
     assert!(rt; history_stays_closed(&rt, rt.alloc())? & missing_history_is_told(&rt, rt.alloc())?);
+    assert!(rt; refusals_are_explained_as_read(&rt, rt.alloc())?);
     Ok(())
 }
 

@@ -14,5 +14,5 @@ returns-in_err-certificate c =
 
 pub returns : goal.returns
 returns c =
-    checking_found (found_of c.args.command.now) c.in_ok-development.development.now c.in_ok-certificate.certificate.now c.workers_given-workers.result c.is_set-progress.result
-    (option_map task_of c.checked.result) c.in_ok-development.ensures c.in_ok-certificate.ensures c.workers_given-workers.ensures c.is_set-progress.ensures c.checked.ensures
+    checking_found (found_of c.args.command.now) c.in_ok-development.development.now c.in_ok-certificate.certificate.now c.number_given-workers.result c.is_set-progress.result
+    (option_map task_of c.checked.result) c.in_ok-development.ensures c.in_ok-certificate.ensures c.number_given-workers.ensures c.is_set-progress.ensures c.checked.ensures

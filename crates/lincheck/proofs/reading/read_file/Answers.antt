@@ -1,10 +1,10 @@
-use Rattle.std.proofs.Common.{◌≡◌, ℕ, List, [], Option, None, Some, IfSome, ◌∙◌}
-use Rattle.lincheck.specs.Reading.{within_limit}
+use Rattle.std.proofs.Common.{◌≡◌, ℕ, List, [], Option, ◌∙◌}
+use Rattle.lincheck.specs.Reading.{OfFile, within_limit}
+use Rattle.lincheck.proofs.Read.{read_so}
 use Rattle.lincheck.proofs.reading.read_file.Goals as goal
 
-same : (known : Option (List ℕ)) (items bytes : List ℕ) → items ≡ bytes → IfSome known (λ file. bytes ≡ within_limit file) → IfSome known (λ file. items ≡ within_limit file)
-same None items bytes e h = tt
-same (Some file) items bytes e h = e ∙ h
+same : (known : Option (List ℕ)) (items bytes : List ℕ) → items ≡ bytes → OfFile known (λ file. bytes ≡ within_limit file) → OfFile known (λ file. items ≡ within_limit file)
+same known items bytes e h = read_so known h (λ file h. e ∙ h)
 
 pub returns-clause-bytes : goal.returns-clause-bytes
 returns-clause-bytes g c =

@@ -1,0 +1,9 @@
+use Rattle.lc_seq.specs.TextView.{specification_of}
+use Rattle.lincheck.proofs.Ordered.{ordered_answered}
+use Rattle.lincheck.proofs.order.answer_ordered.Goals as goal
+
+pub returns-clause-answers : goal.returns-clause-answers
+returns-clause-answers g c =
+    ordered_answered c.args.search.check (specification_of c.args.spec.now) (g.F.Files.bytes_at c.args.files.now c.args.path.now) c.in_ok-bytes.bytes.items c.deref.result.now
+    c.in_ok-order_of.field-0.text.items c.in_ok-order_of.field-0.status
+    c.in_ok-bytes.ensures.bytes c.deref.ensures.value c.in_ok-order_of.ensures
