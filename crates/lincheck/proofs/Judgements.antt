@@ -29,7 +29,7 @@ use Rattle.lincheck.specs.declared.answer.Answer.{Answer}
 use Rattle.lincheck.specs.declared.answer.Failure.{Failure}
 use Rattle.lincheck.specs.declared.judge.Judgement.{Judgement}
 use Rattle.lincheck.specs.declared.judge.Judgement.TheVariants.{Linearizable, Overflow}
-use Rattle.lincheck.proofs.Read.{read_so}
+use Rattle.lincheck.proofs.Read.{read_known, read_so}
 use Rattle.lincheck.proofs.Truncated.{below_or_from, said_of_whole, refusal_of_whole}
 
 -- what is answered of the order that the text says makes the judgement
@@ -140,6 +140,6 @@ pub refused_unread : {T E : Type 0} (CannotOpen : List ℕ → Type 0) (bytes_at
     → IsUnread CannotOpen bytes_at (JudgeHistory development history) → IsErr result
 refused_unread CannotOpen bytes_at development history result bytes seen fault text status opened read same is told (inl closed) = absurd (opened closed)
 refused_unread CannotOpen bytes_at development history result bytes seen (Refused refusal) text status opened read same is told (inr (file, spec, known, says, closed)) =
-    let whole : bytes ≡ within_limit file = subst (λ o. OfFile o (λ f. bytes ≡ within_limit f)) known read in
+    let whole : bytes ≡ within_limit file = read_known (λ f. bytes ≡ within_limit f) known read in
     absurd (says_not_refused first_reading file spec refusal says (refusal_of_whole first_reading file refusal (subst (λ b. IsFirstRefusal first_reading b refusal) (same ∙ whole) is)))
 refused_unread CannotOpen bytes_at development history result bytes seen OutOfMemory text status opened read same is told (inr unread) = absurd told
