@@ -1,5 +1,5 @@
 -- A judgement from the answers to the history's text and to its order, and from the beginning of a file.
-use Rattle.std.proofs.Common.{◌≡◌, ℕ, ◌≤◌, length, take, List, Option, Some, None, IfOk, Result, Ok, Err, refl, subst, ◌∙◌, inl, inr, arith, Vec, ℤ}
+use Rattle.std.proofs.Common.{◌≡◌, ℕ, ◌≤◌, length, take, List, Option, IfOk, Result, Ok, Err, refl, subst, ◌∙◌, inl, inr, arith, Vec, ℤ}
 use Rattle.std.specs.Prelude.{IsErr}
 use Rattle.std.specs.declared.alloc.Global.{Global}
 use Rattle.std.proofs.lemmas.List.{take_all, length-take}
@@ -7,7 +7,7 @@ use Rattle.lc_base.specs.declared.refusal.Fault.{Fault}
 use Rattle.lc_base.specs.declared.refusal.Fault.TheVariants.{Refused, OutOfMemory}
 use Rattle.lc_base.specs.declared.refusal.Refusal.TheVariants.{Text, Shape, Unknown, Repeated, Auxiliary, Bound, CertText, CertShape, Missing, Extra, Proof, Large, HistoryShape, Order}
 use Rattle.lc_hist.specs.History.{Event, Entry}
-use Rattle.lc_hist.specs.JsonHistories.{SaysHistory, IsWrongItem, IsRefusedAt, entries_view}
+use Rattle.lc_hist.specs.JsonHistories.{SaysHistory, IsWrongItem, entries_view}
 use Rattle.lc_hist.specs.Judged.{IsJudged}
 use Rattle.lc_hist.specs.declared.event.Done.{Done}
 use Rattle.lc_hist.specs.declared.judging.JudgeFault as F
@@ -46,24 +46,6 @@ pub order_judged : (spec : Specification) (bytes : List ℕ) (history : List Eve
 order_judged spec bytes history order seen result says same is =
     judged spec bytes history (entries_view order) result says
     (subst (λ (l : List (Done TextCall Pick (Vec ℤ Global))). IsJudged (text_step spec.operations) (TextFits spec.operations) (start_of spec.columns) history (entries_view l) result) same is)
-
--- a fault of the text is its judgement
-pub unread_is_judged : (spec : Specification) (bytes : List ℕ) (fault : Fault) → IsRefusedAt (IsWrongItem spec.operations bytes) fault → IsJudgement spec bytes (Err fault)
-unread_is_judged spec bytes (Refused (HistoryShape item)) wrong = wrong
-unread_is_judged spec bytes (Refused (Text n)) wrong = absurd wrong
-unread_is_judged spec bytes (Refused (Shape n)) wrong = absurd wrong
-unread_is_judged spec bytes (Refused (Unknown n)) wrong = absurd wrong
-unread_is_judged spec bytes (Refused (Repeated n)) wrong = absurd wrong
-unread_is_judged spec bytes (Refused (Auxiliary n)) wrong = absurd wrong
-unread_is_judged spec bytes (Refused (Bound n)) wrong = absurd wrong
-unread_is_judged spec bytes (Refused (CertText n)) wrong = absurd wrong
-unread_is_judged spec bytes (Refused (CertShape n)) wrong = absurd wrong
-unread_is_judged spec bytes (Refused (Missing n)) wrong = absurd wrong
-unread_is_judged spec bytes (Refused (Extra n)) wrong = absurd wrong
-unread_is_judged spec bytes (Refused (Proof k n r)) wrong = absurd wrong
-unread_is_judged spec bytes (Refused (Large k n)) wrong = absurd wrong
-unread_is_judged spec bytes (Refused (Order k r)) wrong = absurd wrong
-unread_is_judged spec bytes OutOfMemory wrong = tt
 
 -- the beginning of a file that is beyond the limit says nothing
 says_nothing : (Holds : Specification → List Event → List Entry → Type 0) (spec : Specification) (n : ℕ) (file : List ℕ) → n ≡ most_bytes → n ≤ length file → SaysSuch Holds spec (take n file) → ⊥
