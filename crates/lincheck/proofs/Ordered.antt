@@ -55,7 +55,7 @@ wrong_of_long spec n file item e long (inr (parts, has, wrong)) = absurd (omega 
 
 of_long : (check : Bool) (spec : Specification) (n : ℕ) (file text : List ℕ) (status : ℕ) → n ≡ most_bytes → n ≤ length file → AnswersOrdered check spec (take n file) text status
     → AnswersOrdered check spec file text status
-of_long check spec n file text status e long (inl (history, given, decision, says, decided)) = absurd (omega (arith, length-take n file, says.text.limit))
+of_long check spec n file text status e long (inl (history, given, decision, says, is, told)) = absurd (omega (arith, length-take n file, says.text.limit))
 of_long check spec n file text status e long (inr (item, wrong, told)) = inr (item, wrong_of_long spec n file item e long wrong, told)
 
 -- the answer to what is read of a file is that to the file
