@@ -41,9 +41,13 @@ run-goes op ns c k before mid run =
     ap is_unfinished run.moved.grown ∙ moves-go c run.begun run.moved.moves (ap is_unfinished run.first.grown ∙ (last-goes before run.first.label ∙ ap goes_on run.first.what)) run.moved.each
 
 -- a client in a call is not idle
-pub never-idle : {T : Type 0} (r : Result T RunFault) (fault : RunFault) (ls : List Label) → IsErrAnd r (λ f. f ≡ fault) → is_unfinished ls ≡ true → (fault ≡ Idle → is_unfinished ls ≡ false) → IsErrOf r Idle → ⊥
-never-idle (Ok x) fault ls same goes idle h = h
-never-idle (Err f) fault ls same goes idle h = let none : is_unfinished ls ≡ false = idle (sym same ∙ h) in cc
+pub never-idle : {T U : Type 0} (r : Result T RunFault) (fault : RunFault) (ls : List Label) → IsErrAnd r (λ f. f ≡ fault) → is_unfinished ls ≡ true →
+    (IsErrOf {T = U} (Err fault) Idle → is_unfinished ls ≡ false) → IsErrOf r Idle → ⊥
+never-idle (Ok x) fault ls same goes idle h = cc
+never-idle (Err f) fault ls same goes idle h =
+    let here : f ≡ Idle = cc in
+    let none : is_unfinished ls ≡ false = idle (ap Err (sym same ∙ here)) in
+    cc
 
 -- a call whose turns are not spent
 pub under-way : (call : Event) (c k turns : ℕ) (before mid after : List Label) → HasRun call c k before mid → k < turns → after ≡ mid → IsUnderWay turns call c before after
