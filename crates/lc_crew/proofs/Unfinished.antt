@@ -3,15 +3,13 @@ use Rattle.std.proofs.Common.{◌≡◌, ℕ, suc, ◌+◌, Bool, true, false, n
 use Rattle.lc_machine.specs.Step.{Event, Invoked}
 use Rattle.lc_run.proofs.Calling.{last-goes, moves-go}
 use Rattle.lc_run.specs.Labels.{goes_on, is_unfinished}
-use Rattle.lc_run.specs.Running.{IsCalled, IsLeftBy}
+use Rattle.lc_run.specs.Running.{IsCalled}
 use Rattle.lc_run.specs.declared.runner.Called.{Called}
 use Rattle.lc_run.specs.declared.runner.Called.TheVariants as called
-use Rattle.lc_run.specs.declared.fault.RunFault.{RunFault}
 use Rattle.lc_sound.specs.Instrumented.{Label}
 use Rattle.lc_crew.specs.Halts.{fits}
-use Rattle.lc_crew.specs.Playing.{HasReturned, HaveReturned, HasMadeOne, HasStopped, IsHaltAt, halt_behind}
+use Rattle.lc_crew.specs.Playing.{HasReturned, HaveReturned, HasMadeOne, halt_behind}
 use Rattle.lc_crew.specs.declared.halt.Halt.{Halt}
-use Rattle.lc_crew.specs.declared.halt.Halt.TheVariants.{Spent, Overflow, Full}
 
 -- no call is unfinished after one that returned
 returned-fits : (turns : ℕ) (call : Event) (c : ℕ) (before after : List Label) → HasReturned turns call c before after → is_unfinished after ≡ false
@@ -28,12 +26,6 @@ pub called-made : (done : Called) (turns op : ℕ) (ns : List ℤ) (c : ℕ) (be
     HasMadeOne (halt_behind done) turns (Invoked op ns) c before after × (fits (halt_behind done) (is_unfinished after) ≡ true)
 called-made (called.Returned numbers) turns op ns c before after is = ((numbers, is), ap not (returned-fits turns (Invoked op ns) c before after (numbers, is)))
 called-made called.TurnsSpent turns op ns c before after is = (is, spent-fits turns op ns c before after is)
-
--- a call that could not go on, by the fault of it
-pub stopped : (fault : RunFault) (halt : Halt) (turns : ℕ) (call : Event) (c : ℕ) (before after : List Label) → IsHaltAt fault halt → IsLeftBy fault turns call c before after → HasStopped halt turns call c before after
-stopped fault Spent turns call c before after is left = absurd is
-stopped fault Overflow turns call c before after is left = subst (λ f. IsLeftBy f turns call c before after) is left
-stopped fault Full turns call c before after is left = subst (λ f. IsLeftBy f turns call c before after) is left
 
 -- a client that is not halted is in no call
 in-none : (unfinished : Bool) → fits None unfinished ≡ true → unfinished ≡ false
