@@ -9,8 +9,9 @@ use crate::failing::model_text;
 use crate::flawed::{Flawed, said, with_variables};
 use crate::names::Names;
 use crate::sentence::Sentence;
-use crate::source::{Source, push_places};
+use crate::source::{Source, claim_place, push_places};
 use crate::state::{goal_text, step_text};
+use crate::stores::push_stores;
 use lc_base::{OutOfMemory, Refusal};
 use lc_cert::EntryReader;
 use lc_cond::{Condition, NumberedPart, Numbering};
@@ -314,7 +315,9 @@ pub(crate) fn push_unfound(
         label,
         &sentence,
         ending,
-    )
+    )?;
+    let claim = claim_place(source, development, condition);
+    push_stores(alloc, text, source, development, condition, claim)
 }
 
 /// What the condition of a number asks for which no proof was found, in full.

@@ -15,10 +15,12 @@ mod misses;
 mod names;
 mod naming;
 mod path;
+mod reach;
 mod reason;
 mod sentence;
 mod source;
 mod state;
+mod stores;
 mod unproved;
 
 pub use certificate::{certificate_explanation, condition_explanation, unfound_explanation};

@@ -1,5 +1,6 @@
 //! What is seldom meant in a development: a call that may return without a mark, and an action that no edge names.
 use crate::naming::{action_name, has_edge, operation_name, point_at, point_name, target_of};
+use crate::reach::Reached;
 use crate::source::{Source, push_part};
 use lc_base::{OpId, OutOfMemory, PointId};
 use lc_cond::on_at;
@@ -65,61 +66,25 @@ fn is_helped(development: &Development, operation: OpId) -> bool {
     false
 }
 
-/// Points that are reached by edges without a mark, and those of them from which no edge was followed yet.
-struct Reached {
-    is_reached: Vec<bool>,
-    left: Vec<PointId>,
-}
-
-impl Drop for Reached {
-    fn drop(self) {
-        let Reached {
-            is_reached: _,
-            left: _,
-        } = self;
-    }
-}
-
-impl Reached {
-    /// The point `first` of `count` points is reached.
-    fn new(alloc: Global, count: usize, first: PointId) -> Result<Reached, OutOfMemory> {
-        let mut is_reached = Vec::new(alloc);
-        for _ in 0..count {
-            is_reached.push(false)?;
+/// Follows the edges of a point that have no mark, and returns whether one of them is a return.
+fn follow(
+    reached: &mut Reached,
+    development: &Development,
+    point: PointId,
+) -> Result<bool, OutOfMemory> {
+    let Some(found) = point_at(development.parts(), point) else {
+        return Ok(false);
+    };
+    for edge in [EdgeKind::Next, EdgeKind::Then, EdgeKind::Else] {
+        if !has_edge(&found.instruction, edge) || !is_unmarked(development, point, edge) {
+            continue;
         }
-        let left = Vec::new(alloc);
-        let mut reached = Reached { is_reached, left };
-        reached.reach(first)?;
-        Ok(reached)
-    }
-
-    /// A point is reached.
-    fn reach(&mut self, point: PointId) -> Result<(), OutOfMemory> {
-        if let Some(is_reached) = self.is_reached.get_mut(point.0 as usize)
-            && !*is_reached
-        {
-            *is_reached = true;
-            self.left.push(point)?;
+        match target_of(&found.instruction, edge) {
+            Some(next) => reached.reach(next)?,
+            None => return Ok(true),
         }
-        Ok(())
     }
-
-    /// Follows the edges of a point that have no mark, and returns whether one of them is a return.
-    fn follow(&mut self, development: &Development, point: PointId) -> Result<bool, OutOfMemory> {
-        let Some(found) = point_at(development.parts(), point) else {
-            return Ok(false);
-        };
-        for edge in [EdgeKind::Next, EdgeKind::Then, EdgeKind::Else] {
-            if !has_edge(&found.instruction, edge) || !is_unmarked(development, point, edge) {
-                continue;
-            }
-            match target_of(&found.instruction, edge) {
-                Some(next) => self.reach(next)?,
-                None => return Ok(true),
-            }
-        }
-        Ok(false)
-    }
+    Ok(false)
 }
 
 /// The point at which a call that begins at a first one may return without a mark, if one is found.
@@ -131,10 +96,10 @@ fn unmarked_return(
     let count = development.parts().object.parts().points.len();
     let mut reached = Reached::new(alloc, count, first)?;
     for _ in 0..count {
-        let Some(point) = reached.left.pop() else {
+        let Some(point) = reached.next() else {
             return Ok(None);
         };
-        if reached.follow(development, point)? {
+        if follow(&mut reached, development, point)? {
             return Ok(Some(point));
         }
     }

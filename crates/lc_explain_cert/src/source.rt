@@ -135,6 +135,15 @@ fn claim_in(source: Source<'_>, part: Part<'_>) -> Claim {
     }
 }
 
+/// The place in a file of what is to hold by a condition, if it is there.
+pub(crate) fn claim_place(
+    source: Source<'_>,
+    development: &Development,
+    condition: &Condition,
+) -> Option<Place> {
+    part_place(source.bytes, claim_of(development, condition)?)
+}
+
 /// What is said of what is to hold, if it is there.
 fn claim_words(kind: Kind) -> &'static str {
     match kind {

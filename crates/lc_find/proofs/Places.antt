@@ -32,13 +32,6 @@ counted_on : (n : ℕ) (p : Option ℕ) → option_map (λ k. n + 1 + k) p ≡ o
 counted_on n None = refl
 counted_on n (Some k) = ap Some (omega arith)
 
--- one more number is noted
-pub or_found_next : (here : Bool) (n : ℕ) (found p : Option ℕ) →
-    option_or (option_or found (cond here (Some n) None)) (option_map (λ k. n + 1 + k) p) ≡ option_or found (option_map (λ k. n + k) (cond here (Some 0) (option_map suc p)))
-or_found_next here n (Some k) p = refl
-or_found_next true n None p = ap Some (omega arith)
-or_found_next false n None p = counted_on n p
-
 -- what is not there
 pub none_of_map : {A B : Type 0} (f : A → B) (o : Option A) (p : Option B) → option_map f o ≡ p → ((x : A) → o ≡ Some x → ⊥) → p ≡ None
 none_of_map f None p is none = sym is

@@ -21,10 +21,3 @@ lookup_last test (e ∷ es) k x = ap (cond (test e.0) (Some e.1)) (lookup_last t
 pub counted_on : (n : ℕ) (p : Option ℕ) → option_map (λ k. n + 1 + k) p ≡ option_map (λ k. n + k) (option_map suc p)
 counted_on n None = refl
 counted_on n (Some k) = ap Some (omega arith)
-
--- one more name is noted
-pub or_found_name : (here : Bool) (n : ℕ) (found p : Option ℕ) →
-    option_or (option_or found (cond here (Some n) None)) (option_map (λ k. n + 1 + k) p) ≡ option_or found (option_map (λ k. n + k) (cond here (Some 0) (option_map suc p)))
-or_found_name here n (Some k) p = refl
-or_found_name true n None p = ap Some (omega arith)
-or_found_name false n None p = counted_on n p

@@ -112,10 +112,6 @@ number_form-zero : (p : N.Place) → N.number_form (pos 0) p ≡ pos 0
 number_form-zero None = refl
 number_form-zero (Some a) = refl
 
--- a form that is added to 0 once
-pub added_to_zero : (z f : N.Form) (form : LinForm) → ((p : N.Place) → z p ≡ N.number_form (pos 0) p) → HasNumbers form (added_scaled z (pos 1) f) → HasNumbers form f
-added_to_zero z f form zero has p = has p ∙ ap (λ y. y +ℤ pos 1 *ℤ f p) (zero p ∙ number_form-zero p) ∙ one_more (f p)
-
 pub atom_given : (ts : Table) → IsExact ts → (x : TermId) → IsTerm ts x → IsAtom (term_in ts x) → (form : LinForm) (z : N.Form) → ((p : N.Place) → z p ≡ N.number_form (pos 0) p) →
     HasNumbers form (λ p. z p +ℤ pos 1 *ℤ N.atom_form x p) → IsFormIn ts form (form_of (term_in ts x))
 atom_given ts exact x is atom form z zero has =

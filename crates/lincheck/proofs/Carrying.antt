@@ -37,7 +37,7 @@ use Rattle.lincheck.specs.declared.answer.Answer.{Answer}
 use Rattle.lincheck.specs.declared.answer.Failure.{Failure}
 use Rattle.lincheck.specs.declared.carry.Old.{Old}
 use Rattle.lincheck.proofs.Opened.{refusal_of_certificate}
-use Rattle.lincheck.proofs.Read.{read_so}
+use Rattle.lincheck.proofs.Read.{read_known, read_so}
 use Rattle.lincheck.proofs.Truncated.{said_of_whole}
 
 -- ---- the certificate
@@ -216,7 +216,7 @@ pub none_behind : (CannotOpen : List ℕ → Type 0) (bytes_at : List ℕ → Op
 none_behind CannotOpen bytes_at old certificate new hints answer opens refused (inl closed) = opens (inl closed)
 none_behind CannotOpen bytes_at old certificate new hints answer opens refused (inr (file, D, known, says, inl closed)) = opens (inr (file, D, known, says, closed))
 none_behind CannotOpen bytes_at old certificate new hints answer opens refused (inr (file, D, known, says, inr (proofs, there, proven, unread))) =
-    let dev = subst (λ o. OfFile o (λ f. OpensOld f (bytes_at certificate) (Err answer))) known refused in
+    let dev = read_known (λ f. OpensOld f (bytes_at certificate) (Err answer)) known refused in
     opens_refused D file proofs answer says proven (subst (λ o. OpensOld file o (Err answer)) there dev)
 
 -- if the new development is refused, the hints are not opened
@@ -225,7 +225,7 @@ pub refused_new : (CannotOpen : List ℕ → Type 0) (bytes_at : List ℕ → Op
 refused_new CannotOpen bytes_at new None answer opens tells unread = opens unread
 refused_new CannotOpen bytes_at new (Some hints) answer opens tells (inl unread) = opens unread
 refused_new CannotOpen bytes_at new (Some hints) answer opens tells (inr (file, E, known, says, closed)) =
-    let refuses : TellsRefusal file answer.text.items answer.status = subst (λ o. OfFile o (λ f. TellsRefusal f answer.text.items answer.status)) known tells in
+    let refuses : TellsRefusal file answer.text.items answer.status = read_known (λ f. TellsRefusal f answer.text.items answer.status) known tells in
     says_not_refused file_reading file E refuses.0 says refuses.1
 
 -- if it is read, it is the hints that cannot be opened

@@ -1,5 +1,5 @@
 -- A judgement from the answers to the history's text and to its order, and from the beginning of a file.
-use Rattle.std.proofs.Common.{◌≡◌, ℕ, ◌≤◌, length, take, List, Option, Some, None, IfOk, Result, Ok, Err, refl, subst, ◌∙◌, inl, inr, arith, Vec, ℤ}
+use Rattle.std.proofs.Common.{◌≡◌, ℕ, ◌≤◌, length, take, List, Option, IfOk, Result, Ok, Err, refl, subst, ◌∙◌, inl, inr, arith, Vec, ℤ}
 use Rattle.std.specs.Prelude.{IsErr}
 use Rattle.std.specs.declared.alloc.Global.{Global}
 use Rattle.std.proofs.lemmas.List.{take_all, length-take}
@@ -7,7 +7,7 @@ use Rattle.lc_base.specs.declared.refusal.Fault.{Fault}
 use Rattle.lc_base.specs.declared.refusal.Fault.TheVariants.{Refused, OutOfMemory}
 use Rattle.lc_base.specs.declared.refusal.Refusal.TheVariants.{Text, Shape, Unknown, Repeated, Auxiliary, Bound, CertText, CertShape, Missing, Extra, Proof, Large, HistoryShape, Order}
 use Rattle.lc_hist.specs.History.{Event, Entry}
-use Rattle.lc_hist.specs.JsonHistories.{SaysHistory, IsWrongItem, IsRefusedAt, entries_view}
+use Rattle.lc_hist.specs.JsonHistories.{SaysHistory, IsWrongItem, entries_view}
 use Rattle.lc_hist.specs.Judged.{IsJudged}
 use Rattle.lc_hist.specs.declared.event.Done.{Done}
 use Rattle.lc_hist.specs.declared.judging.JudgeFault as F
@@ -29,7 +29,7 @@ use Rattle.lincheck.specs.declared.answer.Answer.{Answer}
 use Rattle.lincheck.specs.declared.answer.Failure.{Failure}
 use Rattle.lincheck.specs.declared.judge.Judgement.{Judgement}
 use Rattle.lincheck.specs.declared.judge.Judgement.TheVariants.{Linearizable, Overflow}
-use Rattle.lincheck.proofs.Read.{read_so}
+use Rattle.lincheck.proofs.Read.{read_known, read_so}
 use Rattle.lincheck.proofs.Truncated.{below_or_from, said_of_whole, refusal_of_whole}
 
 -- what is answered of the order that the text says makes the judgement
@@ -46,24 +46,6 @@ pub order_judged : (spec : Specification) (bytes : List ℕ) (history : List Eve
 order_judged spec bytes history order seen result says same is =
     judged spec bytes history (entries_view order) result says
     (subst (λ (l : List (Done TextCall Pick (Vec ℤ Global))). IsJudged (text_step spec.operations) (TextFits spec.operations) (start_of spec.columns) history (entries_view l) result) same is)
-
--- a fault of the text is its judgement
-pub unread_is_judged : (spec : Specification) (bytes : List ℕ) (fault : Fault) → IsRefusedAt (IsWrongItem spec.operations bytes) fault → IsJudgement spec bytes (Err fault)
-unread_is_judged spec bytes (Refused (HistoryShape item)) wrong = wrong
-unread_is_judged spec bytes (Refused (Text n)) wrong = absurd wrong
-unread_is_judged spec bytes (Refused (Shape n)) wrong = absurd wrong
-unread_is_judged spec bytes (Refused (Unknown n)) wrong = absurd wrong
-unread_is_judged spec bytes (Refused (Repeated n)) wrong = absurd wrong
-unread_is_judged spec bytes (Refused (Auxiliary n)) wrong = absurd wrong
-unread_is_judged spec bytes (Refused (Bound n)) wrong = absurd wrong
-unread_is_judged spec bytes (Refused (CertText n)) wrong = absurd wrong
-unread_is_judged spec bytes (Refused (CertShape n)) wrong = absurd wrong
-unread_is_judged spec bytes (Refused (Missing n)) wrong = absurd wrong
-unread_is_judged spec bytes (Refused (Extra n)) wrong = absurd wrong
-unread_is_judged spec bytes (Refused (Proof k n r)) wrong = absurd wrong
-unread_is_judged spec bytes (Refused (Large k n)) wrong = absurd wrong
-unread_is_judged spec bytes (Refused (Order k r)) wrong = absurd wrong
-unread_is_judged spec bytes OutOfMemory wrong = tt
 
 -- the beginning of a file that is beyond the limit says nothing
 says_nothing : (Holds : Specification → List Event → List Entry → Type 0) (spec : Specification) (n : ℕ) (file : List ℕ) → n ≡ most_bytes → n ≤ length file → SaysSuch Holds spec (take n file) → ⊥
@@ -140,6 +122,6 @@ pub refused_unread : {T E : Type 0} (CannotOpen : List ℕ → Type 0) (bytes_at
     → IsUnread CannotOpen bytes_at (JudgeHistory development history) → IsErr result
 refused_unread CannotOpen bytes_at development history result bytes seen fault text status opened read same is told (inl closed) = absurd (opened closed)
 refused_unread CannotOpen bytes_at development history result bytes seen (Refused refusal) text status opened read same is told (inr (file, spec, known, says, closed)) =
-    let whole : bytes ≡ within_limit file = subst (λ o. OfFile o (λ f. bytes ≡ within_limit f)) known read in
+    let whole : bytes ≡ within_limit file = read_known (λ f. bytes ≡ within_limit f) known read in
     absurd (says_not_refused first_reading file spec refusal says (refusal_of_whole first_reading file refusal (subst (λ b. IsFirstRefusal first_reading b refusal) (same ∙ whole) is)))
 refused_unread CannotOpen bytes_at development history result bytes seen OutOfMemory text status opened read same is told (inr unread) = absurd told

@@ -22,7 +22,7 @@ use Rattle.lincheck.specs.Execution.{IsUnread}
 use Rattle.lincheck.specs.Reading.{OfFile, within_limit, most_bytes}
 use Rattle.lincheck.specs.declared.answer.Answer.{Answer}
 use Rattle.lincheck.specs.declared.answer.Failure.{Failure}
-use Rattle.lincheck.proofs.Read.{read_so}
+use Rattle.lincheck.proofs.Read.{read_known, read_so}
 use Rattle.lincheck.proofs.Truncated.{said_of_whole, refusal_of_whole, fault_of_whole, reading_of_whole}
 
 -- what is read of a file says what the file says, or is refused as the file is
@@ -83,5 +83,5 @@ pub refused_opens : (CannotOpen : List ℕ → Type 0) (bytes_at : List ℕ → 
     → (CannotOpen development → ⊥) → OfFile (bytes_at development) (λ file. TellsRefusal file text status) → IsUnread CannotOpen bytes_at (CheckCertificate development certificate) → ⊥
 refused_opens CannotOpen bytes_at development certificate text status opens tells (inl closed) = opens closed
 refused_opens CannotOpen bytes_at development certificate text status opens tells (inr (file, D, known, says, closed)) =
-    let refuses : TellsRefusal file text status = subst (λ o. OfFile o (λ f. TellsRefusal f text status)) known tells in
+    let refuses : TellsRefusal file text status = read_known (λ f. TellsRefusal f text status) known tells in
     says_not_refused file_reading file D refuses.0 says refuses.1

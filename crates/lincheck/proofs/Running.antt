@@ -38,7 +38,7 @@ use Rattle.lincheck.specs.Run.{AnswersPlan, AnswersProvenRun, AnswersRun, IsUnre
 use Rattle.lincheck.specs.declared.answer.Answer.{Answer}
 use Rattle.lincheck.specs.declared.answer.Failure.{Failure}
 use Rattle.lincheck.proofs.Opened.{refusal_of_certificate}
-use Rattle.lincheck.proofs.Read.{read_so}
+use Rattle.lincheck.proofs.Read.{read_known, read_so}
 use Rattle.lincheck.proofs.Truncated.{said_of_whole, refusal_of_whole}
 
 -- ---- the certificate
@@ -133,7 +133,7 @@ pub none_behind_refused : (CannotOpen : List ℕ → Type 0) (bytes_at : List �
     → OfFile (bytes_at development) (λ file. TellsRefusal file answer.text.items answer.status) → IsUnreadRun CannotOpen bytes_at development certificate plan → ⊥
 none_behind_refused CannotOpen bytes_at development certificate plan answer opens tells (inl closed) = opens closed
 none_behind_refused CannotOpen bytes_at development certificate plan answer opens tells (inr (file, D, known, says, closed)) =
-    let told : TellsRefusal file answer.text.items answer.status = subst (λ o. OfFile o (λ f. TellsRefusal f answer.text.items answer.status)) known tells in
+    let told : TellsRefusal file answer.text.items answer.status = read_known (λ f. TellsRefusal f answer.text.items answer.status) known tells in
     says_not_refused file_reading file D told.0 says told.1
 
 -- one is opened after a development that is read, which is the one that was read
@@ -143,7 +143,7 @@ pub unread_behind_read : (CannotOpen CannotOpen' : List ℕ → Type 0) (bytes_a
 unread_behind_read CannotOpen CannotOpen' bytes_at bytes_at' development certificate plan D opens read keeps closed (inl never) = absurd (opens never)
 unread_behind_read CannotOpen CannotOpen' bytes_at bytes_at' development certificate plan D opens read keeps closed (inr (file, E, known, says, inl unread)) = inl (closed certificate unread)
 unread_behind_read CannotOpen CannotOpen' bytes_at bytes_at' development certificate plan D opens read keeps closed (inr (file, E, known, says, inr (proofs, there, proven, unread))) =
-    let here : Says file_reading file D = subst (λ o. OfFile o (λ f. Says file_reading f D)) known read in
+    let here : Says file_reading file D = read_known (λ f. Says file_reading f D) known read in
     inr (proofs, keeps certificate ∙ there, subst (λ x. IsProvenBy x proofs) (says_one file_reading file E D says here) proven, closed plan unread)
 
 -- none is opened after a certificate that is refused
@@ -151,7 +151,7 @@ pub none_behind_unproven : (CannotOpen : List ℕ → Type 0) (bytes_at : List �
     → OfFile (bytes_at certificate) (λ file. OpensAccepted D file (Err answer)) → IsUnreadPlan CannotOpen bytes_at D certificate plan → ⊥
 none_behind_unproven CannotOpen bytes_at D certificate plan answer opens tells (inl closed) = opens closed
 none_behind_unproven CannotOpen bytes_at D certificate plan answer opens tells (inr (proofs, known, proven, closed)) =
-    let told : RefusesCertificate D proofs answer.text.items answer.status = subst (λ o. OfFile o (λ f. OpensAccepted D f (Err answer))) known tells in
+    let told : RefusesCertificate D proofs answer.text.items answer.status = read_known (λ f. OpensAccepted D f (Err answer)) known tells in
     not_certified_and_refused D proofs told.0 proven told.1
 
 -- the plan, after a certificate that is accepted

@@ -1,5 +1,5 @@
 -- What is read of a file up to a limit is its beginning.
-use Rattle.std.proofs.Common.{◌≡◌, ℕ, ◌+◌, ◌≤◌, List, [], ◌∷◌, ◌++◌, length, take, Option, Some, None, IfSome, sym, ap, ◌∙◌, subst, arith, append-nil}
+use Rattle.std.proofs.Common.{◌≡◌, ℕ, ◌+◌, ◌≤◌, List, [], ◌∷◌, ◌++◌, length, take, Option, Some, None, IfSome, refl, sym, ap, ◌∙◌, subst, arith, append-nil}
 use Rattle.std.specs.Io.KnownBytes.{Consumes, IsAtEnd}
 use Rattle.std.proofs.lemmas.List.{take_all}
 use Rattle.std.proofs.Math.Seq.{take-append_seam}
@@ -20,5 +20,5 @@ taken_from file (Some ys) bytes n consumed bound end = from_parts bytes ys n bou
 
 pub consumed_is_taken : (known left right : Option (List ℕ)) (bytes : List ℕ) (n : ℕ) → IfSome known (λ file. left ≡ Some file) → Consumes left right bytes
     → length bytes ≤ n → (length bytes + 1 ≤ n → IsAtEnd right) → OfFile known (λ file. bytes ≡ take n file)
-consumed_is_taken None left right bytes n opened consumed bound end = (bytes, sym (take_all n bytes bound))
-consumed_is_taken (Some file) left right bytes n opened consumed bound end = taken_from file right bytes n (subst (λ l. Consumes l right bytes) opened consumed) bound end
+consumed_is_taken None left right bytes n opened consumed bound end = (bytes, tt, sym (take_all n bytes bound))
+consumed_is_taken (Some file) left right bytes n opened consumed bound end = (file, refl, taken_from file right bytes n (subst (λ l. Consumes l right bytes) opened consumed) bound end)

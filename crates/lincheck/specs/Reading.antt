@@ -1,5 +1,5 @@
 -- How much is read of a file, and into what.
-use Rattle.std.specs.Prelude.{ℕ, ◌+◌, ◌≤◌, ◌<◌, List, ◌++◌, length, take, Option, Some, None}
+use Rattle.std.specs.Prelude.{◌≡◌, ℕ, ◌+◌, ◌≤◌, ◌<◌, List, ◌++◌, length, take, Option, IfSome}
 use Rattle.std.specs.Io.KnownBytes.{Consumes, IsAtEnd}
 use Rattle.lc_base.specs.Limits.{file_limit}
 
@@ -11,10 +11,9 @@ most_bytes = 1 + file_limit
 abbrev pub within_limit : List ℕ → List ℕ
 within_limit file = take most_bytes file
 
--- this holds of the bytes of a file, if they are known; else of some bytes, which stand for what was read
+-- this holds of the bytes of a file: of those that are known, if they are; else of some bytes, which stand for what was read
 abbrev pub OfFile : Option (List ℕ) → (List ℕ → Type 0) → Type 0
-OfFile None Holds = (file : List ℕ) × Holds file
-OfFile (Some file) Holds = Holds file
+OfFile known Holds = (file : List ℕ) × IfSome known (λ bytes. file ≡ bytes) × Holds file
 
 -- these bytes were read of what was left to read: all of it, or as many as are read of a file
 abbrev pub ReadsToLimit : Option (List ℕ) → Option (List ℕ) → List ℕ → Type 0

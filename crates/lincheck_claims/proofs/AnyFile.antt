@@ -1,13 +1,12 @@
 -- What is answered of files whose bytes are not known.
-use Rattle.std.proofs.Common.{ℕ, List, Option, Some, None, inl, inr}
+use Rattle.std.proofs.Common.{ℕ, List, Option, inl, inr}
 use Rattle.lc_words.specs.Tasks.{Task}
 use Rattle.lincheck.specs.Execution.{Ends}
 use Rattle.lincheck.specs.Reading.{OfFile}
 
 -- it holds of some file
 pub some_file : (known : Option (List ℕ)) (Holds : List ℕ → Type 0) → OfFile known Holds → (file : List ℕ) × Holds file
-some_file None Holds h = h
-some_file (Some file) Holds h = (file, h)
+some_file known Holds (file, same, h) = (file, h)
 
 -- an answer in other words
 pub ends_as : (task : Task) (A B : List ℕ → ℕ → Type 0) (before after : Option (List ℕ)) (status : ℕ) → ((text : List ℕ) (said : ℕ) → A text said → B text said) → Ends task A before after status → Ends task B before after status
