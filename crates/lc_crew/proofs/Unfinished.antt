@@ -1,11 +1,8 @@
 -- Whether a call is unfinished after what calls leave.
-use Rattle.std.proofs.Common.{◌≡◌, ℕ, suc, ◌+◌, ◌-◌, Bool, true, false, not, List, [], ◌∷◌, ◌++◌, ℤ, Option, Some, None, length, refl, sym, ap, subst, ◌∙◌, arith, append_assoc}
-use Rattle.std.specs.Option.{option_map_or}
-use Rattle.std.proofs.lemmas.List.{append-nil, length-append}
-use Rattle.lc_hist.proofs.Tables.{slice_get-last}
-use Rattle.lc_term.specs.Lists.{Every}
+use Rattle.std.proofs.Common.{◌≡◌, ℕ, suc, ◌+◌, Bool, true, false, not, List, ℤ, Option, Some, None, refl, ap, subst, ◌∙◌, arith}
 use Rattle.lc_machine.specs.Step.{Event, Invoked}
-use Rattle.lc_run.specs.Labels.{goes_on, is_unfinished, IsMoveBy}
+use Rattle.lc_run.proofs.Calling.{last-goes, moves-go}
+use Rattle.lc_run.specs.Labels.{goes_on, is_unfinished}
 use Rattle.lc_run.specs.Running.{IsCalled}
 use Rattle.lc_run.specs.declared.runner.Called.{Called}
 use Rattle.lc_run.specs.declared.runner.Called.TheVariants as called
@@ -13,19 +10,6 @@ use Rattle.lc_sound.specs.Instrumented.{Label}
 use Rattle.lc_crew.specs.Halts.{fits}
 use Rattle.lc_crew.specs.Playing.{HasReturned, HaveReturned, HasMadeOne, halt_behind}
 use Rattle.lc_crew.specs.declared.halt.Halt.{Halt}
-
--- after a label a call is unfinished as the label says
-last-goes : (before : List Label) (l : Label) → is_unfinished (before ++ l ∷ []) ≡ goes_on l.what
-last-goes before l =
-    ap (λ o. option_map_or (λ (x : Label). goes_on x.what) o false)
-    (slice_get-last before l (length (before ++ l ∷ []) - 1) (let n = length-append before (l ∷ []) in omega arith))
-
--- moves leave it unfinished
-moves-go : (c : ℕ) (before moves : List Label) → is_unfinished before ≡ true → Every (IsMoveBy c) moves → is_unfinished (before ++ moves) ≡ true
-moves-go c before [] goes each = ap is_unfinished (append-nil before) ∙ goes
-moves-go c before (m ∷ ms) goes each =
-    ap is_unfinished (sym (append_assoc before (m ∷ []) ms))
-    ∙ moves-go c (before ++ m ∷ []) ms (last-goes before m ∙ ap goes_on each.0.1.2) each.1
 
 -- no call is unfinished after one that returned
 returned-fits : (turns : ℕ) (call : Event) (c : ℕ) (before after : List Label) → HasReturned turns call c before after → is_unfinished after ≡ false

@@ -1,4 +1,5 @@
 pub mod Halts
 pub mod Playing
 pub mod Members
+pub mod Phases
 pub mod Ran

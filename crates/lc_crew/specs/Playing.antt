@@ -1,9 +1,9 @@
 -- What a client makes of its scripts, by what its seat's list grows by.
-use Rattle.std.specs.Prelude.{◌≡◌, ℕ, zero, suc, ◌<◌, ◌⊎◌, List, [], ◌∷◌, Option, Some, None, ℤ, Vec}
+use Rattle.std.specs.Prelude.{◌≡◌, ℕ, zero, suc, ◌<◌, ◌==◌, ◌⊎◌, cond, List, [], ◌∷◌, ◌++◌, Option, Some, None, ℤ, Vec}
 use Rattle.std.specs.declared.alloc.Global.{Global}
 use Rattle.lc_machine.specs.Step.{Event, Invoked}
-use Rattle.lc_plan.specs.Plans.{Calls}
-use Rattle.lc_run.specs.Running.{IsCalled, IsLeft}
+use Rattle.lc_plan.specs.Plans.{Calls, Script}
+use Rattle.lc_run.specs.Running.{IsCalled, IsLeft, IsUnderWay}
 use Rattle.lc_run.specs.declared.fault.RunFault.{RunFault}
 use Rattle.lc_run.specs.declared.fault.RunFault.TheVariants as run
 use Rattle.lc_run.specs.declared.runner.Called.{Called}
@@ -16,10 +16,11 @@ use Rattle.lc_crew.specs.declared.halt.Halt.TheVariants.{Spent, Overflow, Full}
 abbrev pub HasReturned : (turns : ℕ) (call : Event) (c : ℕ) (before after : List Label) → Type 0
 HasReturned turns call c before after = (numbers : Vec ℤ Global) × IsCalled (called.Returned numbers) turns call c before after
 
--- a call was made and did not return: its turns are spent; or it could not go on, if it could begin
+-- a call was made and did not return: its turns are spent; or it could not go on, if it could begin, as it did if a number leaves
+-- 64 bits
 abbrev pub HasStopped : Halt → (turns : ℕ) (call : Event) (c : ℕ) (before after : List Label) → Type 0
 HasStopped Spent turns call c before after = IsCalled called.TurnsSpent turns call c before after
-HasStopped Overflow turns call c before after = IsLeft turns call c before after
+HasStopped Overflow turns call c before after = IsUnderWay turns call c before after
 HasStopped Full turns call c before after = IsLeft turns call c before after
 
 -- why no further call is made after one that came to this
@@ -60,3 +61,18 @@ HasPlayed (Some halt) [] c before after = ⊥
 HasPlayed None (k ∷ ks) c before after = (mid : List Label) × HasMadeCalls None k c before mid × HasPlayed None ks c mid after
 HasPlayed (Some halt) (k ∷ ks) c before after =
     HasMadeCalls (Some halt) k c before after ⊎ ((mid : List Label) × HasMadeCalls None k c before mid × HasPlayed (Some halt) ks c mid after)
+
+-- The same of a client that may be halted before: then it makes none
+abbrev pub HasPlayedFrom : (before after : Option Halt) → List Calls → (c : ℕ) (made made' : List Label) → Type 0
+HasPlayedFrom None after ks c made made' = HasPlayed after ks c made made'
+HasPlayedFrom (Some halt) after ks c made made' = (after ≡ Some halt) × (made' ≡ made)
+
+-- a client's calls in a phase
+abbrev pub calls_in : ℕ → List Script → List Calls
+calls_in c [] = []
+calls_in c (s ∷ ss) = cond (s.client == c) (s.calls ++ calls_in c ss) (calls_in c ss)
+
+-- and in all phases, one after another
+abbrev pub planned : ℕ → List (List Script) → List Calls
+planned c [] = []
+planned c (p ∷ ps) = calls_in c p ++ planned c ps

@@ -110,16 +110,18 @@ fn play<J: Ledger, R: Wait>(
 }
 
 impl<J: Ledger> Member<J> {
-    ghost use Rattle.std.specs.Prelude.{◌≡◌, [], None, IfOk};
+    ghost use Rattle.std.specs.Prelude.{◌≡◌, [], None, IfOk, map};
     ghost use Rattle.lc_plan.specs.View.{script_of};
     ghost use Rattle.lc_run.specs.Locked.{client_in, labels_made};
-    ghost use Rattle.lc_crew.specs.Members.{IsEndOf, PlaysFrom, client_of, halt_of, made_by};
+    ghost use Rattle.lc_crew.specs.Members.{Plays, client_of, halt_of, made_by};
+    ghost use Rattle.lc_crew.specs.Playing.{calls_in};
 
     /// The client of a seat that has made nothing.
     pub(crate) fn new(seat: Seat<J>) -> Member<J>
         requires { labels_made seat ≡ [] }
         ensures client { client_of result ≡ client_in seat }
         ensures halt { halt_of result ≡ None }
+        ensures made { made_by result ≡ [] }
     {
         Member { seat, halt: None }
     }
@@ -138,7 +140,7 @@ impl<J: Ledger> Member<J> {
         runner: &Runner<J>,
         script: &Script,
     ) -> Result<Member<J>, Stop>
-        ensures plays { IfOk result (PlaysFrom (halt_of self) (script_of script.now) self) }
+        ensures plays { IfOk result (Plays (script_of script.now).calls self) }
         ensures same { IfOk result (λ after. client_of after ≡ client_of self) }
     {
         let Member { mut seat, halt } = self;
@@ -149,9 +151,32 @@ impl<J: Ledger> Member<J> {
         Ok(Member { seat, halt })
     }
 
+    /// The client when it has made its calls of a phase, unless it makes no further one.
+    pub(crate) fn plays_phase<R: Wait>(
+        self,
+        rt: &R,
+        runner: &Runner<J>,
+        phase: &[Script],
+    ) -> Result<Member<J>, Stop>
+        ensures plays { IfOk result (Plays (calls_in (client_of self) (map script_of phase.now)) self) }
+        ensures same { IfOk result (λ after. client_of after ≡ client_of self) }
+    {
+        let mut member = self;
+        for script in phase {
+            if script.client != member.client() {
+                continue;
+            }
+            member = member.plays(rt, runner, script)?;
+        }
+        Ok(member)
+    }
+
     /// Its seat, and how it came to its end.
     pub(crate) fn into_parts(self) -> (Seat<J>, Ended)
-        ensures { IsEndOf result.0 result.1 }
+        ensures seat { client_in result.0 ≡ client_of self }
+        ensures labels { labels_made result.0 ≡ made_by self }
+        ensures client { result.1.client ≡ client_of self }
+        ensures halt { result.1.halt ≡ halt_of self }
     {
         let Member { seat, halt } = self;
         let client = seat.client();

@@ -1,11 +1,12 @@
 //! A run by a plan, from its beginning to its history.
-ghost use Rattle.std.specs.Prelude.{◌≡◌, [], All, IfOk};
+ghost use Rattle.std.specs.Prelude.{◌≡◌, ◌<◌, [], All, IfOk, IfSome, length};
 ghost use Rattle.std.specs.Arc.{arc_value};
 ghost use Rattle.lc_base.specs.Limits.{seat_limit};
 ghost use Rattle.lc_check.specs.VerdictView.{development_in};
+ghost use Rattle.lc_plan.specs.View.{plan_of};
 ghost use Rattle.lc_run.specs.Locked.{labels_made};
 ghost use Rattle.lc_run.specs.Running.{clients_of, development_of};
-ghost use Rattle.lc_crew.specs.Members.{AreEndsOf};
+ghost use Rattle.lc_crew.specs.Members.{AreEndsOf, HasMadeAll, HasMadeAllIf};
 ghost use Rattle.lc_crew.specs.Ran.{AreAllEnded, IsRunOf};
 
 use crate::ended::Ended;
@@ -30,14 +31,37 @@ pub struct Ran {
 }
 
 // The clients of these seats.
-fn crew_of<J: Ledger>(alloc: Global, seats: Vec<Seat<J>>) -> Result<Vec<Option<Member<J>>>, Stop>
+fn crew_of<J: Ledger>(alloc: Global, seats: Vec<Seat<J>>) -> Result<Vec<Member<J>>, Stop>
     requires { All (λ seat. labels_made seat ≡ []) seats.items }
+    ensures { IfOk result (λ crew. All (HasMadeAll []) crew.items) }
 {
     let mut crew = Vec::new(alloc);
     for seat in seats {
-        crew.push(Some(Member::new(seat)))?;
+        crew.push(Member::new(seat))?;
     }
     Ok(crew)
+}
+
+// A place for each client of a plan, and each client at its own.
+fn placed<J: Ledger>(
+    alloc: Global,
+    crew: Vec<Member<J>>,
+    plan: &Plan,
+) -> Result<Vec<Option<Member<J>>>, Stop>
+    requires { All (HasMadeAll (plan_of plan.now).phases) crew.items }
+    ensures { IfOk result (λ places. All (HasMadeAllIf (plan_of plan.now).phases) places.items) }
+{
+    let mut places = Vec::new(alloc);
+    for _client in 0..plan.clients {
+        places.push(None)?;
+    }
+    for member in crew {
+        let place = member.client() as usize;
+        if place < places.len() {
+            places[place] = Some(member);
+        }
+    }
+    Ok(places)
 }
 
 // The seats of a crew, and how its clients came to their ends.
@@ -51,10 +75,11 @@ struct Parted<J: Ledger> {
 fn parts_of<J: Ledger>(
     alloc: Global,
     crew: Vec<Option<Member<J>>>,
-    clients: u32,
+    plan: &Plan,
 ) -> Result<Parted<J>, Stop>
-    ensures ends { IfOk result (λ parted. AreEndsOf parted.seats.items parted.ends.items) }
-    ensures all { IfOk result (λ parted. AreAllEnded clients parted.ends.items) }
+    requires { All (HasMadeAllIf (plan_of plan.now).phases) crew.items }
+    ensures ends { IfOk result (λ parted. AreEndsOf (plan_of plan.now).phases parted.seats.items parted.ends.items) }
+    ensures all { IfOk result (λ parted. AreAllEnded plan.now.clients parted.ends.items) }
 {
     let mut seats = Vec::new(alloc);
     let mut ends = Vec::new(alloc);
@@ -69,21 +94,25 @@ fn parts_of<J: Ledger>(
         seats.push(seat)?;
         ends.push(ended)?;
     }
-    if ends.len() != clients as usize {
+    if ends.len() != plan.clients as usize {
         return Err(Stop::Mismatch);
     }
     Ok(Parted { seats, ends })
 }
 
-// What came of a plan, if all clients are there again.
+// What came of a plan, if its clients have made all their calls.
 fn finished<J: Ledger>(
     alloc: Global,
     runner: Runner<J>,
-    crew: Vec<Option<Member<J>>>,
+    crew: Vec<Member<J>>,
+    plan: &Plan,
 ) -> Result<Ran, Stop>
-    ensures { IfOk result (IsRunOf (development_of runner) (clients_of runner)) }
+    requires made { All (HasMadeAll (plan_of plan.now).phases) crew.items }
+    requires clients { clients_of runner ≡ plan.now.clients }
+    ensures { IfOk result (IsRunOf (development_of runner) plan.now.clients (plan_of plan.now).phases) }
 {
-    let parted = parts_of(alloc, crew, runner.clients())?;
+    let places = placed(alloc, crew, plan)?;
+    let parted = parts_of(alloc, places, plan)?;
     let Parted { seats, ends } = parted;
     match runner.finish(seats) {
         Ok(log) => Ok(Ran { log, ends }),
@@ -102,7 +131,7 @@ pub fn run_with<J: Ledger + Sync, R: Threads + Wait + Sync>(
 ) -> Result<Ran, Stop>
     requires name { blank.name ≡ J.name }
     requires parts { (blank.parts ≡ J.parts) × (blank.parts ≡ seat_limit) }
-    ensures { IfOk result (IsRunOf (development_in (arc_value accepted)) plan.now.clients) }
+    ensures { IfOk result (IsRunOf (development_in (arc_value accepted)) plan.now.clients (plan_of plan.now).phases) }
 {
     let made: Result<(Runner<J>, Vec<Seat<J>>), RunFault> = Runner::new(
         alloc,
@@ -112,10 +141,10 @@ pub fn run_with<J: Ledger + Sync, R: Threads + Wait + Sync>(
     );
     let (runner, seats) = made?;
     let mut crew = crew_of(alloc, seats)?;
-    for phase in &plan.phases {
-        play_phase(rt, alloc, &runner, &mut crew, phase)?;
+    for number in 0..plan.phases.len() {
+        crew = play_phase(rt, alloc, &runner, crew, plan, number)?;
     }
-    finished(alloc, runner, crew)
+    finished(alloc, runner, crew, plan)
 }
 
 /// Runs an accepted development by a plan, as `run_with` does with a ledger of its own.
@@ -125,7 +154,7 @@ pub fn run<R: Threads + Wait + Sync>(
     accepted: Arc<Accepted>,
     plan: &Plan,
 ) -> Result<Ran, Stop>
-    ensures { IfOk result (IsRunOf (development_in (arc_value accepted)) plan.now.clients) }
+    ensures { IfOk result (IsRunOf (development_in (arc_value accepted)) plan.now.clients (plan_of plan.now).phases) }
 {
     run_with::<Brand, R>(rt, alloc, Blank::new(u64::from(SEAT_LIMIT)), accepted, plan)
 }

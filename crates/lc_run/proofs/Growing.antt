@@ -14,10 +14,10 @@ use Rattle.lc_machine.specs.declared.fault.StepFault.{StepFault}
 use Rattle.lc_machine.specs.declared.fault.StepFault.TheVariants as step
 use Rattle.lc_outline.specs.Development.{Development}
 use Rattle.lc_sound.specs.Instrumented.{Label}
-use Rattle.lc_steps.specs.StepView.{IsAdvanced, IsBegun, MayBegin}
+use Rattle.lc_steps.specs.StepView.{GoesOn, IsAdvanced, IsBegun, MayBegin}
 use Rattle.lc_run.specs.Labels.{last_of, goes_on, is_unfinished, HasMade, HasMoved, IsMove, IsMoveBy}
 use Rattle.lc_run.specs.Running.{IsSaid, IsCalled, IsLeft}
-use Rattle.lc_run.specs.Taken.{fault_as, IsUntold, IsStepFault, MayStep}
+use Rattle.lc_run.specs.Taken.{fault_as, HaveRoom, IsUntold, IsStepFault, MayStep}
 use Rattle.lc_run.specs.declared.fault.RunFault.{RunFault}
 use Rattle.lc_run.specs.declared.fault.RunFault.TheVariants.{Clients, Busy, Idle, NoOp, Arity, Mismatch, Full, Overflow, OutOfMemory}
 use Rattle.lc_run.specs.declared.runner.Progress.{Progress}
@@ -39,16 +39,16 @@ fault_is_untold D w c columns step.NoOp there h = h
 fault_is_untold D w c columns step.Arity there h = h
 
 -- it is as one of a run
-pub as-step : (D : Development) (w : World) (held made : List Label) (c : ℕ) (fault : RunFault) → IsUntold D w c fault → IsStepFault D w held c made fault
-as-step D w held made c Overflow h = h
-as-step D w held made c OutOfMemory h = h
-as-step D w held made c Clients h = h
-as-step D w held made c Busy h = h
-as-step D w held made c Idle h = absurd h
-as-step D w held made c NoOp h = h
-as-step D w held made c Arity h = h
-as-step D w held made c Mismatch h = absurd h
-as-step D w held made c Full h = absurd h
+pub as-step : (D : Development) (w : World) (held made : List Label) (c : ℕ) (fault : RunFault) → HaveRoom held → IsUntold D w c fault → IsStepFault D w held c made fault
+as-step D w held made c Overflow room h = (h, room)
+as-step D w held made c OutOfMemory room h = (h, room)
+as-step D w held made c Clients room h = h
+as-step D w held made c Busy room h = h
+as-step D w held made c Idle room h = absurd h
+as-step D w held made c NoOp room h = h
+as-step D w held made c Arity room h = h
+as-step D w held made c Mismatch room h = absurd h
+as-step D w held made c Full room h = absurd h
 
 -- a client that may not take a step
 pub step_is_faulted : (D : Development) (w : World) (held made : List Label) (c n : ℕ) (fault : RunFault) → n ≡ length held → is_unfinished made ≡ true → MayStep w.clients c n (Err fault) → IsStepFault D w held c made fault
@@ -96,6 +96,10 @@ none-moved c ls = record { moves = []; count = refl; each = tt; grown = sym (app
 -- the last of these labels
 last-is : (before : List Label) (l : Label) → last_of (before ++ l ∷ []) ≡ Some l
 last-is before l = slice_get-last before l (length (before ++ l ∷ []) - 1) (let n = length-append before (l ∷ []) in omega arith)
+
+-- what holds of the label that was made holds of the last one
+pub goes-last : (l : Label) (before after ls : List Label) → ls ≡ after → after ≡ before ++ l ∷ [] → GoesOn l.what → IfSome (last_of ls) (λ (x : Label). GoesOn x.what)
+goes-last l before after ls same grown goes = subst (λ o. IfSome o (λ (x : Label). GoesOn x.what)) (sym (ap last_of (same ∙ grown) ∙ last-is before l)) goes
 
 -- what is said of the last label is said of the one that was made
 pub said-made : (progress : Progress) (c : ℕ) (l : Label) (before after : List Label) → l.client ≡ c → after ≡ before ++ l ∷ [] → IfSome (last_of after) (λ (x : Label). IsSaid progress x.what) → HasMade (IsSaid progress) c before after

@@ -1,5 +1,5 @@
 -- Seats that are handed in when a run is finished, and why it is not.
-use Rattle.std.specs.Prelude.{◌≡◌, ℕ, ◌<◌, ◌==◌, Bool, true, false, List, All, Any}
+use Rattle.std.specs.Prelude.{◌≡◌, ℕ, ◌<◌, ◌==◌, Bool, true, false, List, Some, Result, Ok, Err, All, slice_get}
 use Rattle.std.specs.List.{list_any}
 use Rattle.lc_outline.specs.Development.{Development}
 use Rattle.lc_sound.specs.Instrumented.{Label}
@@ -29,9 +29,14 @@ module _ {J : Type 0} where
   abbrev pub HasOwn : List Label → Seat J → Type 0
   HasOwn labels s = labels_by (client_in s) labels ≡ labels_made s
 
-  -- a seat of this client has others
-  abbrev pub IsStrange : List Label → List (Seat J) → ℕ → Type 0
-  IsStrange labels seats c = Any (λ s. (client_in s ≡ c) × (HasOwn labels s → ⊥)) seats
+  -- the first of these seats that has others is this client's
+  pub record IsFirstStrange (labels : List Label) (seats : List (Seat J)) (c : ℕ) : Type 0 where
+    pub place : ℕ
+    pub seat : Seat J
+    pub there : slice_get seats place ≡ Some seat
+    pub client : client_in seat ≡ c
+    pub strange : HasOwn labels seat → ⊥
+    pub first : (k : ℕ) (s : Seat J) → k < place → slice_get seats k ≡ Some s → HasOwn labels s
 
   -- what is held is of this development and for n clients
   abbrev pub IsOf : Shared J → Development → ℕ → Type 0
@@ -43,9 +48,16 @@ module _ {J : Type 0} where
     pub same : IsOf s D n
     pub own : All (HasOwn (labels_held s)) seats
 
+  -- why they are not: the first of these that applies
+  abbrev pub IsWhyNot : Shared J → Development → ℕ → List (Seat J) → Why → Type 0
+  IsWhyNot s D n seats (SeatMissing c) = IsLeastMissing n seats c
+  IsWhyNot s D n seats RunMismatch = AreAllThere n seats × (IsOf s D n → ⊥)
+  IsWhyNot s D n seats (SeatMismatch c) = AreAllThere n seats × IsOf s D n × IsFirstStrange (labels_held s) seats c
+  IsWhyNot s D n seats OutOfMemory = ⊥
+
   -- why a run is not finished: they are not, or there is only no memory
   abbrev pub IsWhy : Shared J → Development → ℕ → List (Seat J) → Why → Type 0
-  IsWhy s D n seats (SeatMissing c) = IsLeastMissing n seats c
-  IsWhy s D n seats RunMismatch = AreAllThere n seats × (IsOf s D n → ⊥)
-  IsWhy s D n seats (SeatMismatch c) = AreAllThere n seats × IsOf s D n × IsStrange (labels_held s) seats c
+  IsWhy s D n seats (SeatMissing c) = IsWhyNot s D n seats (SeatMissing c)
+  IsWhy s D n seats RunMismatch = IsWhyNot s D n seats RunMismatch
+  IsWhy s D n seats (SeatMismatch c) = IsWhyNot s D n seats (SeatMismatch c)
   IsWhy s D n seats OutOfMemory = IsWhole s D n seats

@@ -1,5 +1,5 @@
 -- How a run that is held grows by a step of a seat's client, and why there is none.
-use Rattle.std.specs.Prelude.{◌≡◌, ℕ, ◌≤◌, true, false, List, [], ◌∷◌, ◌++◌, ℤ, Some, Result, Ok, Err, length, slice_get}
+use Rattle.std.specs.Prelude.{◌≡◌, ℕ, ◌≤◌, ◌<◌, true, false, List, [], ◌∷◌, ◌++◌, ℤ, Some, Result, Ok, Err, length, slice_get}
 use Rattle.lc_base.specs.Limits.{label_limit}
 use Rattle.lc_object.specs.Syntax.{Operation}
 use Rattle.lc_machine.specs.Answered.{IsInCall}
@@ -51,13 +51,17 @@ IsUntold D w c Arity = ⊥
 IsUntold D w c Mismatch = ⊥
 IsUntold D w c Full = ⊥
 
+-- there is room for one label more
+abbrev pub HaveRoom : List Label → Type 0
+HaveRoom held = length held < label_limit
+
 -- why a client takes no step of a call in this world, with these labels held, and those made by its seat
 abbrev pub IsStepFault : Development → World → List Label → ℕ → List Label → RunFault → Type 0
 IsStepFault D w held c made Idle = is_unfinished made ≡ false
 IsStepFault D w held c made Mismatch = (is_unfinished made ≡ true) × (IsInCall w c → ⊥)
 IsStepFault D w held c made Full = IsInCall w c × (label_limit ≤ length held)
-IsStepFault D w held c made Overflow = StepOverflows D w c
-IsStepFault D w held c made OutOfMemory = IsInCall w c
+IsStepFault D w held c made Overflow = StepOverflows D w c × HaveRoom held
+IsStepFault D w held c made OutOfMemory = IsInCall w c × HaveRoom held
 IsStepFault D w held c made Clients = ⊥
 IsStepFault D w held c made Busy = ⊥
 IsStepFault D w held c made NoOp = ⊥
@@ -107,7 +111,7 @@ IsBeginFault D w held c made op ns NoOp = (is_unfinished made ≡ false) × (len
 IsBeginFault D w held c made op ns Arity = (is_unfinished made ≡ false) × TakesOther D op ns
 IsBeginFault D w held c made op ns Mismatch = (is_unfinished made ≡ false) × TakesSo D op ns × (IsClient w c W.Idle → ⊥)
 IsBeginFault D w held c made op ns Full = MayBegin D w c op ns × (label_limit ≤ length held)
-IsBeginFault D w held c made op ns OutOfMemory = MayBegin D w c op ns
+IsBeginFault D w held c made op ns OutOfMemory = MayBegin D w c op ns × HaveRoom held
 IsBeginFault D w held c made op ns Clients = ⊥
 IsBeginFault D w held c made op ns Idle = ⊥
 IsBeginFault D w held c made op ns Overflow = ⊥

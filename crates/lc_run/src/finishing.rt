@@ -15,7 +15,6 @@ use crate::history::history_events;
 use crate::label::Label;
 use crate::ordering::order_of;
 use crate::runner::Runner;
-use crate::seating::why_not;
 use lc_base::OutOfMemory;
 use lc_check::Accepted;
 use lc_hist::{Done, History};
@@ -120,7 +119,7 @@ fn conclusion<J: Ledger>(
     ensures room { IfOk result (λ summary. vec_len summary.room ≡ clients_held shared.now) }
     ensures why { IfErr result (IsWhy shared.now (development_in accepted.now) clients seats.now) }
 {
-    if let Some(why) = why_not(shared, accepted, clients, seats) {
+    if let Some(why) = shared.why_not(accepted, clients, seats) {
         return Err(why);
     }
     Ok(summary_of(alloc, shared)?)
@@ -180,11 +179,11 @@ impl<J: Ledger> Runner<J> {
     ghost use Rattle.lc_machine.specs.World.{World};
     ghost use Rattle.lc_sound.specs.Instrumented.{IsRun, history};
     ghost use Rattle.lc_sound.specs.Order.{order};
-    ghost use Rattle.lc_run.specs.Finished.{AreOwn, lists_in};
+    ghost use Rattle.lc_run.specs.Finished.{AreOwn, IsConcluded, lists_in};
     ghost use Rattle.lc_run.specs.LabelView.{labels_of};
     ghost use Rattle.lc_run.specs.Ordering.{order_entries};
     ghost use Rattle.lc_run.specs.Running.{development_of, clients_of};
-    ghost use Rattle.lc_run.specs.Seated.{AreAllThere, IsLeastMissing, HasOwn, IsWhy};
+    ghost use Rattle.lc_run.specs.Seated.{AreAllThere, IsLeastMissing, HasOwn};
     ghost use Rattle.lc_run.specs.declared.held.Shared.{Shared};
 
     /// What has run, if all seats are handed in. If it is not finished, runner and seats come back.
@@ -200,7 +199,7 @@ impl<J: Ledger> Runner<J> {
         ensures seats { IfOk result (λ log. All (HasOwn (labels_of log.labels.items)) seats.items) }
         ensures there { IfOk result (λ log. AreAllThere (clients_of self) seats.items) }
         ensures missing { IfErr result (λ u. (c : ℕ) → u.why ≡ Why.SeatMissing c → IsLeastMissing (clients_of self) seats.items c) }
-        ensures why { IfErr result (λ u. ∥ ((s : Shared J) × IsWhy s (development_of self) (clients_of self) seats.items u.why) ∥₁) }
+        ensures concluded { ∥ ((s : Shared J) × IsConcluded s (development_of self) (clients_of self) seats.items result) ∥₁ }
         ensures same { IfErr result (λ u. u.seats.items ≡ seats.items) }
         ensures development { IfErr result (λ u. development_of u.runner ≡ development_of self) }
         ensures clients { IfErr result (λ u. clients_of u.runner ≡ clients_of self) }

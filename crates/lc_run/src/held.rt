@@ -108,7 +108,7 @@ impl<J: Ledger> Shared<J> {
     ghost use Rattle.lc_run.specs.LabelView.{labels_of};
     ghost use Rattle.lc_run.specs.Labels.{is_unfinished};
     ghost use Rattle.lc_run.specs.Locked.{development_held, clients_held, labels_held, world_held, client_in, labels_made};
-    ghost use Rattle.lc_run.specs.Taken.{HasGrown, IsStepFault, IsBeginFault};
+    ghost use Rattle.lc_run.specs.Taken.{HasGrown, HaveRoom, IsStepFault, IsBeginFault};
 
     /// Nothing has run yet. The seats are those of all clients, by their numbers.
     pub fn new(
@@ -237,6 +237,7 @@ impl<J: Ledger> Shared<J> {
         ensures placed { IfOk result (λ step. is_placed (development_held self.old).object (client_of step.client) ≡ true) }
         ensures call { IfOk result (λ _. IsInCall (world_held self.old) (client_in seat.now)) }
         ensures there { IfOk result (λ _. client_in seat.now < clients_held self.old) }
+        ensures room { IfOk result (λ _. HaveRoom (labels_held self.old)) }
         ensures idle { IsErrOf result RunFault.Idle ↔ (is_unfinished (labels_made seat.now) ≡ false) }
         ensures fault { IfErr result (IsStepFault (development_held self.old) (world_held self.old) (labels_held self.old) (client_in seat.now) (labels_made seat.now)) }
         ensures labels { labels_held self.new ≡ labels_held self.old }
@@ -262,6 +263,7 @@ impl<J: Ledger> Shared<J> {
     /// One instruction, or one return, of the seat's client.
     pub fn take_step(&mut self, seat: &mut Seat<J>) -> Result<(), RunFault>
         ensures grown { OnOk result (HasGrown GoesOn self.old self.new seat.old seat.new) }
+        ensures room { OnOk result (HaveRoom (labels_held self.old)) }
         ensures idle { IsErrOf result RunFault.Idle ↔ (is_unfinished (labels_made seat.old) ≡ false) }
         ensures fault { IfErr result (IsStepFault (development_held self.old) (world_held self.old) (labels_held self.old) (client_in seat.old) (labels_made seat.old)) }
         ensures labels { OnErr result (labels_held self.new ≡ labels_held self.old) }
@@ -298,6 +300,7 @@ impl<J: Ledger> Shared<J> {
         numbers: &[i64],
     ) -> Result<(), RunFault>
         ensures grown { OnOk result (HasGrown (λ what. what ≡ Invoked operation.0 numbers.now) self.old self.new seat.old seat.new) }
+        ensures room { OnOk result (HaveRoom (labels_held self.old)) }
         ensures busy { IsErrOf result RunFault.Busy ↔ (is_unfinished (labels_made seat.old) ≡ true) }
         ensures fault { IfErr result (IsBeginFault (development_held self.old) (world_held self.old) (labels_held self.old) (client_in seat.old) (labels_made seat.old) operation.0 numbers.now) }
         ensures labels { OnErr result (labels_held self.new ≡ labels_held self.old) }

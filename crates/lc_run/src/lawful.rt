@@ -1,6 +1,7 @@
 //! The steps of clients of an accepted development, while a run of it is held: each mark is lawful there, and each return
 //! justified.
-ghost use Rattle.std.specs.Prelude.{◌≡◌, ◌↔◌, Some, true, IsTrue, slice_get, IfOk, IfErr};
+ghost use Rattle.std.specs.Prelude.{◌≡◌, ◌↔◌, ◌<◌, Some, true, IsTrue, slice_get, IfOk, IfErr};
+ghost use Rattle.lc_base.specs.Limits.{label_limit};
 ghost use Rattle.lc_term.specs.Drafts.{written_in_draft, saved_in_draft, draft_columns};
 ghost use Rattle.lc_term.specs.SystemColumns.{column_count};
 ghost use Rattle.lc_machine.specs.Answered.{IsInCall};
@@ -65,7 +66,8 @@ fn is_idle(clients: &[Client], client: u32) -> bool
 
 /// Whether a client may take a step of its call, with `held` labels held, or why not.
 pub(crate) fn may_step(clients: &[Client], client: u32, held: usize) -> Result<(), RunFault>
-    ensures { MayStep (clients_of clients.now) client held result }
+    ensures may { MayStep (clients_of clients.now) client held result }
+    ensures room { IfOk result (λ _. held < label_limit) }
 {
     if !is_in_call(clients, client) {
         return Err(RunFault::Mismatch);
@@ -85,7 +87,8 @@ pub(crate) fn may_call(
     numbers: &[i64],
     held: usize,
 ) -> Result<(), RunFault>
-    ensures { MayCall (development_view development.now) (clients_of clients.now) client operation.0 numbers.now held result }
+    ensures may { MayCall (development_view development.now) (clients_of clients.now) client operation.0 numbers.now held result }
+    ensures room { IfOk result (λ _. held < label_limit) }
 {
     let Some(body) = body_of(development, operation) else {
         return Err(RunFault::NoOp);

@@ -92,7 +92,7 @@ impl<J: Ledger> Runner<J> {
     ghost use Rattle.lc_check.specs.VerdictView.{development_in};
     ghost use Rattle.lc_run.specs.Labels.{is_unfinished, HasMade};
     ghost use Rattle.lc_run.specs.Locked.{client_in, labels_made};
-    ghost use Rattle.lc_run.specs.Running.{development_of, clients_of, IsSaid, IsCalled, IsLeft};
+    ghost use Rattle.lc_run.specs.Running.{development_of, clients_of, IsSaid, IsCalled, IsLeft, IsLeftBy, IsUnbegun, IsUnstepped, IsUncalled};
 
     /// A runner for `clients` clients, with their seats, by their numbers.
     pub fn new(
@@ -153,6 +153,7 @@ impl<J: Ledger> Runner<J> {
         ensures err { OnErr result (labels_made seat.new ≡ labels_made seat.old) }
         ensures busy { IsErrOf result RunFault.Busy ↔ (is_unfinished (labels_made seat.old) ≡ true) }
         ensures never { IsErrOf result RunFault.Idle → ⊥ }
+        ensures fault { IfErr result (IsUnbegun seat.old operation.0 numbers.now) }
         ensures same { client_in seat.new ≡ client_in seat.old }
     {
         self.shared.lock(rt).take_begin(seat, operation, numbers)
@@ -164,6 +165,7 @@ impl<J: Ledger> Runner<J> {
         ensures err { OnErr result (labels_made seat.new ≡ labels_made seat.old) }
         ensures idle { IsErrOf result RunFault.Idle ↔ (is_unfinished (labels_made seat.old) ≡ false) }
         ensures never { IsErrOf result RunFault.Busy → ⊥ }
+        ensures fault { IfErr result (IsUnstepped seat.old) }
         ensures same { client_in seat.new ≡ client_in seat.old }
     {
         match Vec::with_capacity(self.alloc, REPLY_LIMIT as usize) {
@@ -186,8 +188,10 @@ impl<J: Ledger> Runner<J> {
     ) -> Result<Called, RunFault>
         ensures ok { IfOk result (λ called. IsCalled called turns (Invoked operation.0 numbers.now) (client_in seat.old) (labels_made seat.old) (labels_made seat.new)) }
         ensures err { OnErr result (IsLeft turns (Invoked operation.0 numbers.now) (client_in seat.old) (labels_made seat.old) (labels_made seat.new)) }
+        ensures left { IfErr result (λ e. IsLeftBy e turns (Invoked operation.0 numbers.now) (client_in seat.old) (labels_made seat.old) (labels_made seat.new)) }
         ensures busy { IsErrOf result RunFault.Busy ↔ (is_unfinished (labels_made seat.old) ≡ true) }
         ensures never { IsErrOf result RunFault.Idle → ⊥ }
+        ensures fault { IfErr result (IsUncalled seat.old seat.new operation.0 numbers.now turns) }
         ensures same { client_in seat.new ≡ client_in seat.old }
     {
         self.begin(rt, seat, operation, numbers)?;

@@ -21,6 +21,7 @@ use Rattle.lc_hist.specs.JsonWritten.{history_text}
 use Rattle.lc_hist.specs.declared.event.Done.{Done}
 use Rattle.lc_outline.specs.Development.{Development}
 use Rattle.lc_outline_text.specs.Developments.{file_reading}
+use Rattle.lc_plan.specs.Plans as S
 use Rattle.lc_plan.specs.Readings.{plan_reading}
 use Rattle.lc_plan.specs.View.{plan_of}
 use Rattle.lc_plan.specs.declared.plan.Plan.{Plan}
@@ -82,8 +83,8 @@ ran_text_is D E ran count ends order first lines history whole text same counted
     (is_history ∙ ap₂ (λ (F : Development) o. history_text F.specification.operations (events_in ran.log.history) (entries_view o)) same ordered))
 
 -- the report of its text is that of its labels
-pub ran_told : (D : Development) (n : ℕ) (ran : Ran) (text : List ℕ) → IsRunOf D n ran → text ≡ ran_text D ran → TellsRun D n text
-ran_told D n ran text is same = (
+pub ran_told : (D : Development) (P : S.Plan) (ran : Ran) (text : List ℕ) → IsRunOf D P.clients P.phases ran → text ≡ ran_text D ran → TellsRun D P text
+ran_told D P ran text is same = (
   labels_of ran.log.labels.items,
   ran.ends.items,
   is.ordered,
@@ -92,7 +93,7 @@ ran_told D n ran text is same = (
 
 -- ---- the answers
 
-pub planned_answered : (D : Development) (known : Option (List ℕ)) (plan : Plan) (text : List ℕ) (status : ℕ) → OfFile known (λ file. OpensPlan D file (Ok plan)) → RunsSo D plan.clients text status
+pub planned_answered : (D : Development) (known : Option (List ℕ)) (plan : Plan) (text : List ℕ) (status : ℕ) → OfFile known (λ file. OpensPlan D file (Ok plan)) → RunsSo D (plan_of plan) text status
     → OfFile known (λ file. AnswersPlan D file text status)
 planned_answered D known plan text status opens runs = read_so known opens (λ file opens. inr (plan_of plan, opens, runs))
 

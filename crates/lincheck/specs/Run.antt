@@ -50,13 +50,15 @@ run_text D events entries ends =
 abbrev pub ran_text : Development → Ran → List ℕ
 ran_text D ran = run_text D (events_in ran.log.history) (entries_view ran.log.order.items) ran.ends.items
 
--- what is printed of a run by n clients: its history and its order, which linearizes it, and how its clients came to their ends
-abbrev pub TellsRun : Development → ℕ → List ℕ → Type 0
-TellsRun D n text = (labels : List Label) × (ends : List Ended) × IsOrdered D n labels ends × (text ≡ run_text D (history labels) (order labels) ends)
+-- what is printed of a run by a plan: its history and its order, which linearizes it, and how its clients came to their ends; each
+-- made the calls that are planned for it, in their order: all of them, or up to the one that halted it
+abbrev pub TellsRun : Development → S.Plan → List ℕ → Type 0
+TellsRun D P text =
+    (labels : List Label) × (ends : List Ended) × IsOrdered D P.clients P.phases labels ends × (text ≡ run_text D (history labels) (order labels) ends)
 
 -- a run is reported, with status 0; or seats did not match, and nothing is printed
-abbrev pub RunsSo : Development → ℕ → List ℕ → ℕ → Type 0
-RunsSo D n text status = (TellsRun D n text × (status ≡ 0)) ⊎ ((text ≡ []) × (status ≡ 5))
+abbrev pub RunsSo : Development → S.Plan → List ℕ → ℕ → Type 0
+RunsSo D P text status = (TellsRun D P text × (status ≡ 0)) ⊎ ((text ≡ []) × (status ≡ 5))
 
 -- the file is no plan for the development, and its first refusal is reported
 abbrev pub RefusesPlan : Development → List ℕ → List ℕ → ℕ → Type 0
@@ -64,7 +66,7 @@ RefusesPlan D file text status = (refusal : Refusal) × IsFirstRefusal (plan_rea
 
 -- the file of the plan is refused; or the development runs by it
 abbrev pub AnswersPlan : Development → List ℕ → List ℕ → ℕ → Type 0
-AnswersPlan D file text status = RefusesPlan D file text status ⊎ ((P : S.Plan) × Says (plan_reading D) file P × RunsSo D P.clients text status)
+AnswersPlan D file text status = RefusesPlan D file text status ⊎ ((P : S.Plan) × Says (plan_reading D) file P × RunsSo D P text status)
 
 -- the file of the certificate is refused; or it proves the development, and the plan's is answered
 abbrev pub AnswersProvenRun : Development → List ℕ → Option (List ℕ) → List ℕ → ℕ → Type 0

@@ -124,7 +124,7 @@ fn answer_ran<R: Threads + Wait + Sync, E: Write>(
     plan: &Plan,
     err: &mut E,
 ) -> Result<Answer, OutOfMemory>
-    ensures { IfOk result (λ answer. RunsSo (development_in accepted) plan.now.clients answer.text.items answer.status) }
+    ensures { IfOk result (λ answer. RunsSo (development_in accepted) (plan_of plan.now) answer.text.items answer.status) }
 {
     let accepted = Arc::new(alloc, accepted)?;
     let ours = Arc::try_clone(&accepted)?;

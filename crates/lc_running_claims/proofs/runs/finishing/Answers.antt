@@ -30,8 +30,8 @@ returns-clause-there g c = c.finish.ensures.there
 pub returns-clause-missing : goal.returns-clause-missing
 returns-clause-missing g c = c.finish.ensures.missing
 
-pub returns-clause-why : goal.returns-clause-why
-returns-clause-why g c = c.finish.ensures.why
+pub returns-clause-concluded : goal.returns-clause-concluded
+returns-clause-concluded g c = c.finish.ensures.concluded
 
 pub returns-clause-same : goal.returns-clause-same
 returns-clause-same g c = c.finish.ensures.same

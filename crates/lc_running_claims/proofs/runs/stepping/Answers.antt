@@ -12,5 +12,8 @@ returns-clause-idle g c = c.step.ensures.idle
 pub returns-clause-never : goal.returns-clause-never
 returns-clause-never g c = c.step.ensures.never
 
+pub returns-clause-fault : goal.returns-clause-fault
+returns-clause-fault g c = c.step.ensures.fault
+
 pub returns-clause-same : goal.returns-clause-same
 returns-clause-same g c = c.step.ensures.same

@@ -3,6 +3,9 @@ use Rattle.lc_running_claims.proofs.runs.taking_a_step.Goals as goal
 pub returns-clause-grown : goal.returns-clause-grown
 returns-clause-grown g c = c.take_step.ensures.grown
 
+pub returns-clause-room : goal.returns-clause-room
+returns-clause-room g c = c.take_step.ensures.room
+
 pub returns-clause-idle : goal.returns-clause-idle
 returns-clause-idle g c = c.take_step.ensures.idle
 

@@ -8,7 +8,7 @@ use Rattle.lc_run.specs.LabelView.{labels_of}
 use Rattle.lc_run.specs.Locked.{development_held, clients_held, labels_held}
 use Rattle.lc_run.specs.Ordering.{order_entries}
 use Rattle.lc_run.specs.Running.{development_of, clients_of}
-use Rattle.lc_run.specs.Seated.{AreAllThere, HasOwn, IsWhy}
+use Rattle.lc_run.specs.Seated.{AreAllThere, HasOwn, IsWhole, IsWhy}
 use Rattle.lc_run.proofs.Ending.{its-run, its-order, all-gathered}
 use Rattle.lc_run.proofs.runner.Runner.finish.Goals as goal
 
@@ -44,8 +44,21 @@ returns-in-Ok-clause-seats g c =
 pub returns-in-Ok-clause-there : goal.returns-in-Ok-clause-there
 returns-in-Ok-clause-there g c = subst (λ seats. AreAllThere (clients_of c.args.self) seats) c.deref-2.ensures.value c.in-Ok.ensures.whole.there
 
-pub returns-in-Err-clause-why : goal.returns-in-Err-clause-why
-returns-in-Err-clause-why g c =
+pub returns-in-Ok-clause-concluded : goal.returns-in-Ok-clause-concluded
+returns-in-Ok-clause-concluded g c =
+    let s = c.into_inner-shared.result in
+    let n = clients_of c.args.self in
+    ∣ (
+      s,
+      (
+        subst (λ seats. IsWhole s (development_of c.args.self) n seats) c.deref-2.ensures.value
+            (subst (λ D. IsWhole s D n c.deref-2.result.now) (ap development_in c.deref.ensures) c.in-Ok.ensures.whole),
+        c.log_of.ensures.labels,
+      ),
+    ) ∣₁
+
+pub returns-in-Err-clause-concluded : goal.returns-in-Err-clause-concluded
+returns-in-Err-clause-concluded g c =
     let s = c.into_inner-shared.result in
     let n = clients_of c.args.self in
     ∣ (
