@@ -80,7 +80,7 @@ all_chosen D = ap₂ (λ l n. l ++ total_line n) (all_lines D 0 (conditions D)) 
 
 all_answered : (file text : List ℕ) (status : ℕ) → AnswersChosen None None file text status → AnswersDevelopment conditions_text file text status
 all_answered file text status (inl tells) = inl tells
-all_answered file text status (inr (D, says, is, zero)) = inr (D, says, is ∙ all_chosen D, zero)
+all_answered file text status (inr (D, says, tells)) = inr (D, says, tells.0 ∙ all_chosen D, tells.1)
 
 all_known : (known : Option (List ℕ)) (text : List ℕ) (status : ℕ) → OfFile known (λ file. AnswersChosen None None file text status)
     → OfFile known (λ file. AnswersDevelopment conditions_text file text status)

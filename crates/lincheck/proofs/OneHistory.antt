@@ -17,8 +17,10 @@ use Rattle.lc_seq.specs.Specification.{Specification}
 use Rattle.lc_seq.specs.TextStep.{text_step, TextFits, start_of}
 use Rattle.lincheck.specs.Answers.{ToldFault}
 use Rattle.lincheck.specs.Judge.{IsSpecified, IsJudgedSo, SaysSuch, IsJudgement, judgement_of, ToldJudgement, AnswersHistory, AnswersJudge}
+use Rattle.lincheck.specs.Reading.{OfFile}
 use Rattle.lincheck.specs.declared.judge.Judgement.{Judgement}
 use Rattle.lincheck.specs.declared.judge.Judgement.TheVariants.{Linearizable, Overflow}
+use Rattle.lincheck.proofs.Read.{read_known}
 
 -- an item of the text is wrong, or its order is judged so
 abbrev IsFound : Specification → List ℕ → Result Judgement Fault → Type 0
@@ -72,6 +74,10 @@ answered_once spec file text text' status status' (j, is, told) (k, is', told') 
     let same = one_found spec file j k (found spec file text status j is told) (found spec file text' status' k is' told') in
     told_once j text text' status status' told (subst (λ l. ToldJudgement l text' status') (sym same) told')
 
+-- what is answered of a history that is known
+of_history : (spec : Specification) (history text : List ℕ) (status : ℕ) → OfFile (Some history) (λ file. AnswersHistory spec file text status) → AnswersHistory spec history text status
+of_history spec history text status answers = read_known {known = Some history} {file = history} (λ file. AnswersHistory spec file text status) refl answers
+
 pub one_history_answer : (development history text text' : List ℕ) (status status' : ℕ) → AnswersJudge development (Some history) text status → AnswersJudge development (Some history) text' status'
     → (text ≡ text') × (status ≡ status')
 one_history_answer development history text text' status status' (inl (r, first, told)) (inl (s, first', told')) =
@@ -80,7 +86,7 @@ one_history_answer development history text text' status status' (inl (r, first,
 one_history_answer development history text text' status status' (inr (spec, says, answers)) (inl (r, first, told)) = absurd (says_not_refused first_reading development spec r says first)
 one_history_answer development history text text' status status' (inr (spec, says, answers)) (inr (spec', says', answers')) =
     let same = says_one first_reading development spec spec' says says' in
-    answered_once spec history text text' status status' answers (subst (λ z. AnswersHistory z history text' status') (sym same) answers')
+    answered_once spec history text text' status status' (of_history spec history text status answers) (subst (λ z. AnswersHistory z history text' status') (sym same) (of_history spec' history text' status' answers'))
 
 accepted_by : (spec : Specification) (file text : List ℕ) (events : List Event) (order : List Entry) → AnswersHistory spec file text 0 → SaysHistory spec.operations file events order → IsSpecified spec events
 accepted_by spec file text events order (Ok Linearizable, (events', order', says', judged), told) says =
@@ -95,4 +101,4 @@ pub accepted_is_linearizable : (development history text : List ℕ) → Answers
 accepted_is_linearizable development history text (inl (r, first, told)) spec events order says said = absurd (let e : 0 ≡ 1 = told.1 in cc)
 accepted_is_linearizable development history text (inr (spec', says', answers)) spec events order says said =
     let same = says_one first_reading development spec' spec says' says in
-    accepted_by spec history text events order (subst (λ z. AnswersHistory z history text 0) same answers) said
+    accepted_by spec history text events order (subst (λ z. AnswersHistory z history text 0) same (of_history spec' history text 0 answers)) said
