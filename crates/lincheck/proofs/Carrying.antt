@@ -207,7 +207,8 @@ proven_refused D E file proofs answer says other proven (refusal, refuses, told)
 
 opens_refused : (D : Development) (file proofs : List ℕ) (answer : Answer) → Says file_reading file D → IsProvenBy D proofs → OpensOld file (Some proofs) (Err answer) → ⊥
 opens_refused D file proofs answer says proven (inl tells) = says_not_refused file_reading file D tells.0 says tells.1
-opens_refused D file proofs answer says proven (inr (E, other, refuses)) = proven_refused D E file proofs answer says other proven refuses
+opens_refused D file proofs answer says proven (inr (E, other, refuses)) =
+    proven_refused D E file proofs answer says other proven (read_known {known = Some proofs} {file = proofs} (λ f. OpensCertificate E f (Err answer)) refl refuses)
 
 -- if the first files are refused, none is opened after them
 pub none_behind : (CannotOpen : List ℕ → Type 0) (bytes_at : List ℕ → Option (List ℕ)) (old certificate new : List ℕ) (hints : Option (List ℕ)) (answer : Answer)

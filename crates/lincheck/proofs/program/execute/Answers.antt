@@ -21,8 +21,8 @@ returns-in-Ok-carry_out-clause-answers g c = λ task ask.
     ends_ok (g.F.Files.bytes_at c.args.files.now) (task_of c.in-Ok.asked.request) task (g.O.Write.contents c.args.out.now) (g.O.Write.contents c.carry_out.new.out) c.in-Ok-carry_out.status
     (request_is (texts_of c.args.words.now) c.in-Ok.asked.request task c.in-Ok.ensures.reads ask) c.in-Ok-carry_out.ensures.leaves
 
-pub returns-in-Err-carry_out-clause-answers : goal.returns-in-Err-carry_out-clause-answers
-returns-in-Err-carry_out-clause-answers g c = λ task ask.
+pub returns-clause-answers : goal.returns-clause-answers
+returns-clause-answers g c = λ task ask.
     ends_failed (g.F.Files.bytes_at c.args.files.now) (task_of c.in-Ok.asked.request) task (g.O.Write.contents c.args.out.now) (g.O.Write.contents c.carry_out.new.out) c.in-Err-carry_out.failure
     c.complain.result (request_is (texts_of c.args.words.now) c.in-Ok.asked.request task c.in-Ok.ensures.reads ask) c.complain.ensures c.in-Err-carry_out.ensures.leaves
 
@@ -37,8 +37,8 @@ returns-in-Ok-carry_out-clause-unread g c = λ task ask unread.
     let none = c.in-Ok-carry_out.ensures.unread (subst (λ (t : Task). IsUnread (g.F.Files.CannotOpen c.args.files.now) (g.F.Files.bytes_at c.args.files.now) t) (sym same) unread) in
     let no : false ≡ true = none.0 in cc
 
-pub returns-in-Err-carry_out-clause-unread : goal.returns-in-Err-carry_out-clause-unread
-returns-in-Err-carry_out-clause-unread g c = λ task ask unread.
+pub returns-clause-unread : goal.returns-clause-unread
+returns-clause-unread g c = λ task ask unread.
     let same : task_of c.in-Ok.asked.request ≡ task = request_is (texts_of c.args.words.now) c.in-Ok.asked.request task c.in-Ok.ensures.reads ask in
     let none = c.in-Err-carry_out.ensures.unread (subst (λ (t : Task). IsUnread (g.F.Files.CannotOpen c.args.files.now) (g.F.Files.bytes_at c.args.files.now) t) (sym same) unread) in
     (failed_status c.in-Err-carry_out.failure c.complain.result c.complain.ensures, none.1)
@@ -46,5 +46,5 @@ returns-in-Err-carry_out-clause-unread g c = λ task ask unread.
 pub returns-in-Ok-carry_out-clause-wrong : goal.returns-in-Ok-carry_out-clause-wrong
 returns-in-Ok-carry_out-clause-wrong g c = λ wrong. absurd (c.in-Ok.ensures.wrong wrong)
 
-pub returns-in-Err-carry_out-clause-wrong : goal.returns-in-Err-carry_out-clause-wrong
-returns-in-Err-carry_out-clause-wrong g c = λ wrong. absurd (c.in-Ok.ensures.wrong wrong)
+pub returns-clause-wrong : goal.returns-clause-wrong
+returns-clause-wrong g c = λ wrong. absurd (c.in-Ok.ensures.wrong wrong)
