@@ -1,0 +1,5 @@
+mod Rows
+mod Lists
+mod Filled
+mod Calls
+mod Names
