@@ -3,3 +3,4 @@ mod Lists
 mod Filled
 mod Calls
 mod Names
+mod Drops

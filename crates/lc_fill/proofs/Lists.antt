@@ -1,6 +1,7 @@
 -- Lists that begin with a word.
-use Rattle.std.proofs.Common.{◌≡◌, ℕ, ◌+◌, true, false, List, [], ◌∷◌, length, Ok, refl, sym, ap, ◌∙◌}
+use Rattle.std.proofs.Common.{◌≡◌, ℕ, ◌+◌, true, false, List, [], ◌∷◌, length, Ok, refl, sym, ap, ◌∙◌, arith}
 use Rattle.std.specs.Prelude.{◌==◌}
+use Rattle.std.proofs.lemmas.Bool.{eqb-true}
 use Rattle.lc_fill.specs.Files.{is_nil}
 use Rattle.lc_sexp.specs.Trees.{Tree, Trees, atom, list, none, ◌▸◌, item_count}
 use Rattle.lc_sexp.specs.Parts.{form_fit, is_fitting, begins_form}
@@ -58,11 +59,11 @@ pub past-none : (next : Filler) (n : ℕ) (us : Trees) → us ≡ none → past 
 past-none next n us e = rw e refl
 
 pub none_begins : (word : List ℕ) (ts : Trees) → ts ≡ none → begins_form word ts ≡ true → ⊥
-none_begins word ts e h = let no : begins_form word none ≡ true = ap (begins_form word) (sym e) ∙ h in cc
+none_begins word ts e h = let there : begins_form word none ≡ true = ap (begins_form word) (sym e) ∙ h in cc
 
 pub is_nil-true : (ns : List ℕ) → (length ns == 0) ≡ true → is_nil ns ≡ true
 is_nil-true [] h = refl
-is_nil-true (n ∷ ns) h = cc
+is_nil-true (n ∷ ns) h = absurd (omega (arith, eqb-true (length (n ∷ ns)) 0 h))
 
 pub is_nil-false : (ns : List ℕ) → (length ns == 0) ≡ false → is_nil ns ≡ false
 is_nil-false [] h = cc

@@ -62,7 +62,9 @@ made_nothing xs g l r e f b = rw (e, f, b) refl
 
 pub listed : (t : Tree) (xs : List Tree) (g : List Gap) (l : List ℕ) → t ≡ list (row xs)
     → (let f : Filled Tree = record { whole = t; gaps = g; lacking = l } in f) ≡ inside list (made xs g l (as_is none))
-listed t xs g l e = rw (e, made_alone xs g l) refl
+listed t xs g l e =
+    let whole : Tree → Filled Tree = λ s. record { whole = s; gaps = g; lacking = l } in
+    ap whole e ∙ sym (ap (λ r. inside list r) (made_alone xs g l))
 
 pub alone : (s t : Tree) (g : List Gap) (l : List ℕ) → s ≡ t → g ≡ [] → l ≡ [] → (let f : Filled Tree = record { whole = s; gaps = g; lacking = l } in f) ≡ as_is t
 alone s t g l e f b = rw (e, f, b) refl

@@ -2,6 +2,8 @@
 use Rattle.std.specs.Prelude.{ℕ, ◌+◌, Bool, true, false, ◌&&◌, ◌||◌, not, codes, List, [], ◌∷◌, Option, Some, None, if◌then◌else◌}
 use Rattle.std.specs.List.{list_any}
 use Rattle.lc_sexp.specs.Trees.{Tree, Trees, atom, list, none, ◌▸◌, item_count}
+use Rattle.lc_reading.specs.Naming.{text_in}
+use Rattle.lc_reading.specs.Parts.{begins}
 use Rattle.lc_reading.specs.Words.{is}
 use Rattle.lc_fill.specs.Filled.{Filled, Filler, as_is, kept, put, lacking_at, past, each}
 use Rattle.lc_fill.specs.Forms.{in_form, section}
@@ -9,10 +11,24 @@ use Rattle.lc_fill.specs.Acts.{Acts, call_at, is_lacking}
 use Rattle.lc_fill.specs.declared.edge.Edge.{Edge}
 use Rattle.lc_fill.specs.declared.edge.Edge.TheVariants.{Next, Then}
 
+-- the text of the first of these, if it is an atom
+abbrev pub first_text : Trees → List ℕ
+first_text none = []
+first_text (t ▸ ts) = text_in t
+
+-- the items of a list
+abbrev pub items_within : Tree → Trees
+items_within (atom w) = none
+items_within (list ts) = ts
+
+-- the items after the first
+abbrev pub later : Trees → Trees
+later none = none
+later (t ▸ ts) = ts
+
 -- the first word of a list
 abbrev pub head_of : Tree → List ℕ
-head_of (list (atom w ▸ ts)) = w
-head_of _ = []
+head_of t = first_text (items_within t)
 
 -- riders begin with these
 abbrev pub is_rider : List ℕ → Bool
@@ -53,8 +69,7 @@ edge_word Then = codes "then"
 
 -- (on EDGE ..), of this edge
 abbrev pub is_at : Edge → Tree → Bool
-is_at e (list (atom w ▸ atom v ▸ ts)) = is w (codes "on") && is v (edge_word e)
-is_at e _ = false
+is_at e t = begins (codes "on") t && is (first_text (later (items_within t))) (edge_word e)
 
 abbrev pub names_edge : Edge → Trees → Bool
 names_edge e none = false

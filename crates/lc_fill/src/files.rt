@@ -49,6 +49,7 @@ fn fill_points(
 }
 
 /// `(body OP (LOCAL*) POINT+)`
+#[tactic(auto, unfolding(lc_sexp::specs::Text::class_of))]
 fn fill_body(alloc: Global, acts: &Acts<'_, '_>, part: Part<'_>) -> Result<FilledTree, OutOfMemory>
     ensures { IfOk result (λ f. tree_view f ≡ body_filled (acts_view acts.now) (place_of part.entry) (tree_of part.entry)) }
 {
@@ -59,13 +60,13 @@ fn fill_body(alloc: Global, acts: &Acts<'_, '_>, part: Part<'_>) -> Result<Fille
     let mut row = Row::of_word(alloc, "body")?;
     let more = row.keep_next(alloc, &mut rest)?;
     if !more {
-        let list = row.into_list(alloc)?;
-        return Ok(list);
+        let bare = row.into_list(alloc)?;
+        return Ok(bare);
     }
-    let more = row.keep_next(alloc, &mut rest)?;
-    if !more {
-        let list = row.into_list(alloc)?;
-        return Ok(list);
+    let locals = row.keep_next(alloc, &mut rest)?;
+    if !locals {
+        let named = row.into_list(alloc)?;
+        return Ok(named);
     }
     fill_points(alloc, acts, &mut row, rest)?;
     let list = row.into_list(alloc)?;
@@ -92,6 +93,7 @@ fn fill_bodies(
 }
 
 /// `[(invariant ..)] [(idle F*)] BODY+`
+#[tactic(auto, unfolding(lc_sexp::specs::Text::class_of))]
 fn fill_claims(alloc: Global, acts: &Acts<'_, '_>, list: Cursor<'_>) -> Result<Row, OutOfMemory>
     ensures { IfOk result (λ row. row_view row ≡ claims_filled (acts_view acts.now) (number_of list.entry) (rest_of list.entry)) }
 {
@@ -123,6 +125,7 @@ fn put_actions(
 }
 
 /// The sections of an object, from its arrays on.
+#[tactic(auto, unfolding(lc_sexp::specs::Text::class_of))]
 fn fill_sections(
     alloc: Global,
     acts: &Acts<'_, '_>,
@@ -142,6 +145,7 @@ fn fill_sections(
 }
 
 /// `(object NAME ..)`
+#[tactic(auto, unfolding(lc_sexp::specs::Text::class_of))]
 fn fill_object(alloc: Global, plan: &Plan, part: Part<'_>) -> Result<FilledTree, OutOfMemory>
     ensures { IfOk result (λ f. tree_view f ≡ object_filled (plan_view plan.now) (place_of part.entry) (tree_of part.entry)) }
 {
@@ -152,8 +156,8 @@ fn fill_object(alloc: Global, plan: &Plan, part: Part<'_>) -> Result<FilledTree,
     let mut row = Row::of_word(alloc, "object")?;
     let more = row.keep_next(alloc, &mut rest)?;
     if !more {
-        let list = row.into_list(alloc)?;
-        return Ok(list);
+        let bare = row.into_list(alloc)?;
+        return Ok(bare);
     }
     let acts = read_acts(alloc, plan, rest)?;
     fill_sections(alloc, &acts, &mut row, rest)?;
@@ -204,7 +208,8 @@ impl Filling {
     pub fn text(&self, alloc: Global) -> Result<Vec<u8>, OutOfMemory>
         ensures { IfOk result (λ text. text.items ≡ printed (filling_view self.now).whole) }
     {
-        print(alloc, &self.row.items)
+        let text = print(alloc, &self.row.items)?;
+        Ok(text)
     }
 
     /// The places in the file at which a call of the stand-in was put in, in order.

@@ -17,13 +17,16 @@ pub(crate) fn meant(gaps: &[Gap], item: u64) -> u64
 {
     let mut left = item;
     for gap in gaps {
-        if left < gap.place {
+        let place = gap.place;
+        let size = gap.size;
+        if left < place {
             return left;
         }
-        if left - gap.place < gap.size {
-            return gap.place;
+        let within = left - place;
+        if within < size {
+            return place;
         }
-        left -= gap.size;
+        left -= size;
     }
     left
 }

@@ -1,7 +1,8 @@
 //! How the names of actions are read, and which one is put in.
-ghost use Rattle.std.specs.Prelude.{◌≡◌, codes, true, length, string_bytes, IfOk};
+ghost use Rattle.std.specs.Prelude.{◌≡◌, ◌++◌, codes, true, length, string_bytes, IfOk};
 ghost use Rattle.lc_sexp.specs.Printed.{is_atom};
 ghost use Rattle.lc_sexp.specs.Shown.{rest_of};
+ghost use Rattle.lc_reading.specs.Parts.{tree_of};
 ghost use Rattle.lc_reading.specs.Rows.{all_declared};
 ghost use Rattle.lc_reading.specs.TableView.{listed};
 ghost use Rattle.lc_fill.specs.Acts.{action_name, unused, acts_of};
@@ -12,7 +13,7 @@ use crate::acts::Acts;
 use crate::plan::{Plan, found};
 use crate::row::{bare, list_of};
 use lc_base::OutOfMemory;
-use lc_reading::{NameTable, behind_word, next_part};
+use lc_reading::{NameTable, Part, behind_word, next_part};
 use lc_sexp::{Cursor, Sexp};
 use std::alloc::Global;
 
@@ -26,11 +27,19 @@ fn action_names<'a>(alloc: Global, parts: Cursor<'a>) -> Result<NameTable<'a>, O
         let Ok(part) = next_part(&mut rest) else {
             return Ok(names);
         };
-        let Ok(_) = behind_word(part, "action") else {
-            continue 'items;
-        };
-        names = names.enter_second(part)?;
+        names = with_declared(names, part)?;
     }
+}
+
+/// These names, and that of the action which an item declares.
+fn with_declared<'a>(names: NameTable<'a>, part: Part<'a>) -> Result<NameTable<'a>, OutOfMemory>
+    ensures { IfOk result (λ after. listed after ≡ listed names.entry ++ action_name (tree_of part.entry)) }
+{
+    let Ok(_) = behind_word(part, "action") else {
+        return Ok(names);
+    };
+    let more = names.enter_second(part)?;
+    Ok(more)
 }
 
 /// A name that is none of these.
@@ -38,8 +47,7 @@ fn unused(alloc: Global, names: &NameTable<'_>) -> Result<String, OutOfMemory>
     ensures name { IfOk result (λ name. string_bytes name ≡ unused (listed names.now) (length (listed names.now)) (codes "todo")) }
     ensures spelled { IfOk result (λ name. is_atom (string_bytes name) ≡ true) }
 {
-    let mut name = String::new(alloc);
-    name.push_str("todo")?;
+    let mut name = String::from_str(alloc, "todo")?;
     let mut left = names.len();
     while left > 0 {
         if !names.contains(name.as_str()) {
@@ -82,8 +90,8 @@ impl<'a, 'b> Acts<'a, 'b> {
             let call = bare(alloc, self.stand_in.as_str())?;
             return Ok(call);
         }
-        let call = list_of(alloc, planned)?;
-        Ok(call)
+        let list = list_of(alloc, planned)?;
+        Ok(list)
     }
 
     /// Whether that is a call of the stand-in.
@@ -94,6 +102,7 @@ impl<'a, 'b> Acts<'a, 'b> {
     }
 
     /// The stand-in.
+    #[tactic(auto, unfolding(lc_sexp::specs::Text::class_of))]
     pub(crate) fn stand_in(&self, alloc: Global) -> Result<Sexp, OutOfMemory>
         ensures { IfOk result (λ action. action ≡ stand_in_of (acts_view self.now)) }
     {

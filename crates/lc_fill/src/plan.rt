@@ -33,7 +33,8 @@ pub(crate) fn found(planned: &[Planned], place: u64) -> Cursor<'_>
     ensures { rest_of result ≡ found planned.now place }
 {
     for one in planned {
-        if one.place == place {
+        let at = one.place;
+        if at == place {
             return one.items.cursor();
         }
     }

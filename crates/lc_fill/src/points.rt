@@ -3,8 +3,9 @@ ghost use Rattle.std.specs.Prelude.{◌≡◌, IfOk, OnOk};
 ghost use Rattle.lc_sexp.specs.Shown.{rest_of, number_of};
 ghost use Rattle.lc_sexp.specs.Trees.{none};
 ghost use Rattle.lc_reading.specs.Parts.{tree_of, place_of};
-ghost use Rattle.lc_fill.specs.Filled.{Filled, each};
-ghost use Rattle.lc_fill.specs.Points.{head_of, is_rider, rides, has_call, on_filled, is_at, names_edge, unless_named, closed, storing, call_filled, code_filled, point_filled};
+ghost use Rattle.lc_fill.specs.Acts.{call_at};
+ghost use Rattle.lc_fill.specs.Filled.{as_is, each};
+ghost use Rattle.lc_fill.specs.Points.{first_text, items_within, head_of, is_rider, rides, has_call, on_filled, is_at, names_edge, unless_named, closed, storing, put_call, call_filled, code_filled, point_filled};
 ghost use Rattle.lc_fill.specs.Seen.{acts_view, onto, row_view, tree_view};
 
 use crate::acts::Acts;
@@ -16,17 +17,32 @@ use lc_reading::{Part, behind_word, next_part};
 use lc_sexp::{Cursor, Item, Sexp};
 use std::alloc::Global;
 
+/// The text of the next item, if it is an atom; else none.
+fn first_text<'a>(list: Cursor<'a>) -> &'a str
+    ensures { result.now ≡ first_text (rest_of list.entry) }
+{
+    let mut ahead = list;
+    match ahead.item() {
+        Ok(Item::Atom(atom)) => atom.text(),
+        _ => "",
+    }
+}
+
+/// The items of a part that is a list; of an atom none.
+fn items_within<'a>(part: Part<'a>) -> Cursor<'a>
+    ensures { rest_of result ≡ items_within (tree_of part.entry) }
+{
+    let Item::List(list) = part.item() else {
+        return Cursor::empty();
+    };
+    list
+}
+
 /// The first word of a list.
 fn head_of<'a>(part: Part<'a>) -> &'a str
     ensures { result.now ≡ head_of (tree_of part.entry) }
 {
-    let Item::List(mut list) = part.item() else {
-        return "";
-    };
-    match list.atom() {
-        Ok(atom) => atom.text(),
-        Err(_) => "",
-    }
+    first_text(items_within(part))
 }
 
 /// Whether riders begin with this word.
@@ -60,6 +76,7 @@ fn has_call(acts: &Acts<'_, '_>, list: Cursor<'_>) -> bool
 }
 
 /// `(on EDGE [(ACTION T*)] RIDER*)`
+#[tactic(auto, unfolding(lc_sexp::specs::Text::class_of))]
 fn fill_on(alloc: Global, acts: &Acts<'_, '_>, part: Part<'_>) -> Result<FilledTree, OutOfMemory>
     ensures { IfOk result (λ f. tree_view f ≡ on_filled (acts_view acts.now) (place_of part.entry) (tree_of part.entry)) }
 {
@@ -70,8 +87,8 @@ fn fill_on(alloc: Global, acts: &Acts<'_, '_>, part: Part<'_>) -> Result<FilledT
     let mut row = Row::of_word(alloc, "on")?;
     let more = row.keep_next(alloc, &mut rest)?;
     if !more {
-        let list = row.into_list(alloc)?;
-        return Ok(list);
+        let bare = row.into_list(alloc)?;
+        return Ok(bare);
     }
     fill_call(alloc, acts, &mut row, rest)?;
     let list = row.into_list(alloc)?;
@@ -91,6 +108,19 @@ fn fill_call(
         row.keep_all(alloc, list)?;
         return Ok(());
     }
+    put_call_before(alloc, acts, row, list)?;
+    Ok(())
+}
+
+/// A call that is put in before these items.
+fn put_call_before(
+    alloc: Global,
+    acts: &Acts<'_, '_>,
+    row: &mut Row,
+    list: Cursor<'_>,
+) -> Result<(), OutOfMemory>
+    ensures { OnOk result (row_view row.new ≡ onto row.old (put_call (acts_view acts.now) (number_of list.entry) (call_at (acts_view acts.now) (number_of list.entry)) (as_is (rest_of list.entry)))) }
+{
     let place = list.number();
     let call = acts.call(alloc, place)?;
     row.put_call(place, acts.is_lacking(place), call)?;
@@ -102,13 +132,10 @@ fn fill_call(
 fn is_at(edge: Edge, part: Part<'_>) -> bool
     ensures { result ≡ is_at edge (tree_of part.entry) }
 {
-    let Ok(mut rest) = behind_word(part, "on") else {
+    let Ok(rest) = behind_word(part, "on") else {
         return false;
     };
-    match rest.atom() {
-        Ok(atom) => atom.text() == edge.word(),
-        Err(_) => false,
-    }
+    first_text(rest) == edge.word()
 }
 
 /// Whether one of these items is `(on EDGE ..)`, of this edge.
@@ -138,6 +165,7 @@ fn edge_left_out(code: Part<'_>, list: Cursor<'_>) -> Option<Edge>
 }
 
 /// `(on EDGE (ACTION ..))`, for an edge that stores and has none.
+#[tactic(auto, unfolding(lc_sexp::specs::Text::class_of))]
 fn close(
     alloc: Global,
     acts: &Acts<'_, '_>,
@@ -147,11 +175,12 @@ fn close(
 ) -> Result<(), OutOfMemory>
     ensures { OnOk result (row_view row.new ≡ onto row.old (closed (acts_view acts.now) edge place)) }
 {
-    let Some(edge) = edge else {
-        return Ok(());
+    let edge = match edge {
+        Some(edge) => edge,
+        None => return Ok(()),
     };
     let word = Sexp::atom(alloc, "on")?;
-    let name = Sexp::atom(alloc, edge.word())?;
+    let name = edge.item(alloc)?;
     let call = acts.call(alloc, place)?;
     let on = Sexp::list(alloc, &[word, name, call])?;
     row.put_call(place, acts.is_lacking(place), on)?;
@@ -170,8 +199,9 @@ fn fill_ons(
 {
     let mut rest = list;
     'items: loop {
+        let place = rest.number();
         let Ok(part) = next_part(&mut rest) else {
-            close(alloc, acts, row, edge, rest.number())?;
+            close(alloc, acts, row, edge, place)?;
             return Ok(());
         };
         let on = fill_on(alloc, acts, part)?;
@@ -180,6 +210,7 @@ fn fill_ons(
 }
 
 /// `INSTR [(assert F*)] ON*`
+#[tactic(auto, unfolding(lc_sexp::specs::Text::class_of))]
 fn fill_code(
     alloc: Global,
     acts: &Acts<'_, '_>,
@@ -201,6 +232,7 @@ fn fill_code(
 }
 
 /// `(point NAME INSTR [(assert F*)] ON*)`
+#[tactic(auto, unfolding(lc_sexp::specs::Text::class_of))]
 pub(crate) fn fill_point(
     alloc: Global,
     acts: &Acts<'_, '_>,
@@ -215,8 +247,8 @@ pub(crate) fn fill_point(
     let mut row = Row::of_word(alloc, "point")?;
     let more = row.keep_next(alloc, &mut rest)?;
     if !more {
-        let list = row.into_list(alloc)?;
-        return Ok(list);
+        let bare = row.into_list(alloc)?;
+        return Ok(bare);
     }
     fill_code(alloc, acts, &mut row, rest)?;
     let list = row.into_list(alloc)?;

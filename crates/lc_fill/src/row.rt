@@ -191,8 +191,9 @@ impl Row {
     {
         let mut rest = list;
         'items: loop {
+            let place = rest.number();
             let Ok(part) = next_part(&mut rest) else {
-                self.put_all(alloc, rest.number(), more)?;
+                self.put_all(alloc, place, more)?;
                 return Ok(());
             };
             self.keep(alloc, part)?;
@@ -300,8 +301,8 @@ impl Row {
         let Ok(part) = next_part(rest) else {
             return Ok(());
         };
-        let form = extended(alloc, word, more, part)?;
-        self.push(form)?;
+        let filled = extended(alloc, word, more, part)?;
+        self.push(filled)?;
         Ok(())
     }
 

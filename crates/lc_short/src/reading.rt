@@ -33,14 +33,13 @@ fn read_filled(alloc: Global, forms: &Forms) -> Result<Short, Fault>
     let plan = Plan::none(alloc)?;
     let filling = fill(alloc, &plan, forms)?;
     let text = filling.text(alloc)?;
-    match development_of(alloc, &text) {
-        Ok(whole) => {
-            let lacking = Vec::from_slice(alloc, filling.lacking())?;
-            Ok(Short { whole, lacking })
-        }
-        Err(Fault::Refused(refusal)) => Err(Fault::Refused(at_meant(&filling, refusal))),
-        Err(Fault::OutOfMemory) => Err(Fault::OutOfMemory),
-    }
+    let whole = match development_of(alloc, &text) {
+        Ok(whole) => whole,
+        Err(Fault::Refused(refusal)) => return Err(Fault::Refused(at_meant(&filling, refusal))),
+        Err(Fault::OutOfMemory) => return Err(Fault::OutOfMemory),
+    };
+    let lacking = Vec::from_slice(alloc, filling.lacking())?;
+    Ok(Short { whole, lacking })
 }
 
 /// The short development of the file with these forms. If it is none, `Refused` has its first refusal, as in `short_of`.

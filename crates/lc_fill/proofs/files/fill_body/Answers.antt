@@ -18,19 +18,19 @@ pub returns-then-not-more : goal.returns-then-not-more
 returns-then-not-more c =
     let points = each (point_filled (acts_view c.args.acts.now)) ended in
     let behind = c.keep_next.new.self in
-    c.in_ok-list.ensures
+    c.in_ok-bare.ensures
     ∙ list_filled (codes "body") (past (past points)) c.args.part c.in-Ok.rest c.in_ok-row.row behind c.in-Ok.ensures c.in_ok-row.ensures
     (stopped (past points) c.in_ok-more.more c.in-Ok.rest c.keep_next.new.rest c.in_ok-row.row behind c.if-not-more.true c.in_ok-more.ensures)
 
-pub returns-then-not-more-2 : goal.returns-then-not-more-2
-returns-then-not-more-2 c =
+pub returns-then-not-locals : goal.returns-then-not-locals
+returns-then-not-locals c =
     let points = each (point_filled (acts_view c.args.acts.now)) ended in
     let named = c.keep_next.new.self in
     let behind = c.keep_next-2.new.self in
-    c.in_ok-list.ensures
+    c.in_ok-named.ensures
     ∙ list_filled (codes "body") (past (past points)) c.args.part c.in-Ok.rest c.in_ok-row.row behind c.in-Ok.ensures c.in_ok-row.ensures
     (passed (past points) c.in_ok-more.more c.in-Ok.rest c.keep_next.new.rest c.in_ok-row.row named behind c.if-not-more.false c.in_ok-more.ensures
-    (stopped points c.in_ok-more-2.more c.keep_next.new.rest c.keep_next-2.new.rest named behind c.if-not-more-2.true c.in_ok-more-2.ensures))
+    (stopped points c.in_ok-locals.locals c.keep_next.new.rest c.keep_next-2.new.rest named behind c.if-not-locals.true c.in_ok-locals.ensures))
 
 pub returns : goal.returns
 returns c =
@@ -41,4 +41,4 @@ returns c =
     c.in_ok-list.ensures
     ∙ list_filled (codes "body") (past (past points)) c.args.part c.in-Ok.rest c.in_ok-row.row end c.in-Ok.ensures c.in_ok-row.ensures
     (passed (past points) c.in_ok-more.more c.in-Ok.rest c.keep_next.new.rest c.in_ok-row.row named end c.if-not-more.false c.in_ok-more.ensures
-    (passed points c.in_ok-more-2.more c.keep_next.new.rest c.keep_next-2.new.rest named behind end c.if-not-more-2.false c.in_ok-more-2.ensures c.in_ok-fill_points.ensures))
+    (passed points c.in_ok-locals.locals c.keep_next.new.rest c.keep_next-2.new.rest named behind end c.if-not-locals.false c.in_ok-locals.ensures c.in_ok-fill_points.ensures))

@@ -1,10 +1,7 @@
-use Rattle.std.proofs.Common.{sym, ap, ap₂, ◌∙◌}
+use Rattle.std.proofs.Common.{sym, ap, ◌∙◌}
 use Rattle.lc_sexp.specs.Shown.{rest_of, number_of}
-use Rattle.lc_fill.specs.Acts.{call_at}
-use Rattle.lc_fill.specs.Filled.{as_is}
-use Rattle.lc_fill.specs.Points.{put_call}
 use Rattle.lc_fill.specs.Seen.{acts_view, onto}
-use Rattle.lc_fill.proofs.Calls.{has-call, no-call, called-put}
+use Rattle.lc_fill.proofs.Calls.{has-call, no-call}
 use Rattle.lc_fill.proofs.points.fill_call.Goals as goal
 
 pub returns-then-has_call : goal.returns-then-has_call
@@ -15,9 +12,5 @@ returns-then-has_call c =
 pub returns : goal.returns
 returns c =
     let a = acts_view c.args.acts.now in
-    let n = number_of c.args.list in
-    let ts = rest_of c.args.list in
-    c.in_ok-keep_all.ensures
-    ∙ called-put a c.args.row.now c.put_call.new.self c.number-place.result c.in_ok-call.call c.is_lacking.result (as_is ts) c.in_ok-call.ensures c.is_lacking.ensures c.in_ok-put_call.ensures
-    ∙ ap (λ m. onto c.args.row.now (put_call a m (call_at a m) (as_is ts))) c.number-place.ensures
-    ∙ ap (onto c.args.row.now) (sym (no-call a n ts (sym c.has_call.ensures ∙ c.if-has_call.false)))
+    c.in_ok-put_call_before.ensures
+    ∙ ap (onto c.args.row.now) (sym (no-call a (number_of c.args.list) (rest_of c.args.list) (sym c.has_call.ensures ∙ c.if-has_call.false)))

@@ -11,7 +11,7 @@ use Rattle.lc_fill.proofs.points.fill_ons.Goals as goal
 pub returns-in_default : goal.returns-in_default
 returns-in_default c =
     let a = acts_view c.args.acts.now in
-    c.in_ok-close.ensures ∙ ap (λ n. onto c.items.row (closed a c.args.edge n)) c.number.ensures ∙ ap (λ ts. onto c.items.row (each (on_filled a) (closed a c.args.edge) (number_of c.items.rest) ts)) (sym c.in_default.ensures.1) ∙ c.items.invariant
+    c.in_ok-close.ensures ∙ ap (λ n. onto c.items.row (closed a c.args.edge n)) c.number-place.ensures ∙ ap (λ ts. onto c.items.row (each (on_filled a) (closed a c.args.edge) (number_of c.items.rest) ts)) (sym c.in_default.ensures.1) ∙ c.items.invariant
 
 pub items-preserved : goal.items-preserved
 items-preserved c =

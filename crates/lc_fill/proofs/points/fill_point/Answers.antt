@@ -18,7 +18,7 @@ pub returns-then-not-more : goal.returns-then-not-more
 returns-then-not-more c =
     let a = acts_view c.args.acts.now in
     let behind = c.keep_next.new.self in
-    c.in_ok-list.ensures
+    c.in_ok-bare.ensures
     ∙ list_filled (codes "point") (past (code_filled a)) c.args.part c.in-Ok.rest c.in_ok-row.row behind c.in-Ok.ensures c.in_ok-row.ensures
     (stopped (code_filled a) c.in_ok-more.more c.in-Ok.rest c.keep_next.new.rest c.in_ok-row.row behind c.if-not-more.true c.in_ok-more.ensures)
 

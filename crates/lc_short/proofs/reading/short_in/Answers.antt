@@ -7,4 +7,4 @@ returns-in-Err-Refused c = λ bytes reads.
     filled_answer bytes c.args.forms.now c.in-Err-Refused.field-0-0 c.read_filled.result reads (c.in-Err-Refused.ensures bytes reads) c.read_filled.ensures
 
 pub returns-in-Ok : goal.returns-in-Ok
-returns-in-Ok c = λ bytes reads. inl (c.in-Ok.ensures bytes reads, c.new.ensures)
+returns-in-Ok c = λ bytes reads. inl (c.in-Ok.ensures bytes reads, c.new.ensures.items)

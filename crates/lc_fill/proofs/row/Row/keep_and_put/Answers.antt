@@ -10,7 +10,7 @@ pub returns-in_default : goal.returns-in_default
 returns-in_default c =
     let more = rest_of c.args.more in
     c.in_ok-put_all.ensures (as_is none)
-    ∙ ap (λ n. onto c.items.self (put_all n more (as_is none))) c.number.ensures
+    ∙ ap (λ n. onto c.items.self (put_all n more (as_is none))) c.number-place.ensures
     ∙ ap (λ ts. onto c.items.self (ending more (number_of c.items.rest) ts)) (sym c.in_default.ensures.1) ∙ c.items.invariant
 
 pub items-preserved : goal.items-preserved

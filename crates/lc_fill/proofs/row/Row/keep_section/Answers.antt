@@ -21,7 +21,7 @@ returns c = λ next.
     let d = c.next_part.new.list in
     let others = next (number_of d) (rest_of d) in
     c.in_ok-push.ensures others
-    ∙ ap (λ f. onto c.args.self.now (followed f others)) c.in_ok-form.ensures
+    ∙ ap (λ f. onto c.args.self.now (followed f others)) c.in_ok-filled.ensures
     ∙ ap (onto c.args.self.now) (sym (section-there c.args.word.now (rest_of c.args.more) next (number_of l) (number_of d) (place_of c.in-Ok.part) (tree_of c.in-Ok.part) (rest_of l) (rest_of d)
     behind.rest behind.number at (sym c.is_at_form.ensures ∙ c.if-not-is_at_form.false)))
 
