@@ -1,12 +1,10 @@
--- Loops over what is planned and what was put in: what is left of a list, and what it says.
-use Rattle.std.proofs.Common.{◌≡◌, ℕ, zero, suc, ◌+◌, ◌-◌, ◌<◌, ◌≤◌, Bool, true, false, List, [], ◌∷◌, length, drop, get_or, refl, sym, ap, ap₂, ◌∙◌, arith}
-use Rattle.std.specs.Prelude.{◌==◌, nat_lt, if◌then◌else◌}
+-- Loops over what is planned: what is left of a list, and what it says.
+use Rattle.std.proofs.Common.{◌≡◌, ℕ, zero, suc, ◌+◌, ◌<◌, ◌≤◌, true, false, List, [], ◌∷◌, length, drop, get_or, refl, sym, ap, ap₂, ◌∙◌, arith}
+use Rattle.std.specs.Prelude.{◌==◌}
 use Rattle.std.proofs.Math.Seq.{drop-cons}
-use Rattle.std.proofs.lemmas.Bool.{lt-ltb, le-ltb, eq-eqb, ne_eqb}
+use Rattle.std.proofs.lemmas.Bool.{eq-eqb, ne_eqb}
 use Rattle.lc_sexp.specs.Trees.{Trees, none}
-use Rattle.lc_fill.specs.Gaps.{meant}
 use Rattle.lc_fill.specs.PlanView.{found}
-use Rattle.lc_fill.specs.declared.gap.Gap.{Gap}
 use Rattle.lc_fill.specs.declared.plan.Planned.{Planned}
 
 pub one_left : {A : Type 0} (xs : List A) (i : ℕ) (x : A) → i < length xs → x ≡ get_or xs i x → drop i xs ≡ x ∷ drop (i + 1) xs
@@ -36,28 +34,3 @@ found_later ps qs p n all e h so_far =
 
 pub found_none : (ps : List Planned) (n : ℕ) (all : Trees) → ps ≡ [] → found ps n ≡ all → none ≡ all
 found_none ps n all e so_far = ap (λ xs. found xs n) (sym e) ∙ so_far
-
--- ---- what was put in
-
-pub meant_before : (gs hs : List Gap) (g : Gap) (n m : ℕ) → gs ≡ g ∷ hs → n < g.place → meant gs n ≡ m → n ≡ m
-meant_before gs hs g n m e h so_far =
-    let test : nat_lt n g.place ≡ true = lt-ltb n g.place h in
-    let here : meant (g ∷ hs) n ≡ n = rw test refl in
-    sym here ∙ ap (λ xs. meant xs n) (sym e) ∙ so_far
-
-pub meant_within : (gs hs : List Gap) (g : Gap) (n m : ℕ) → gs ≡ g ∷ hs → g.place ≤ n → n - g.place < g.size → meant gs n ≡ m → g.place ≡ m
-meant_within gs hs g n m e h k so_far =
-    let test : nat_lt n g.place ≡ false = le-ltb n g.place h in
-    let within : nat_lt (n - g.place) g.size ≡ true = lt-ltb (n - g.place) g.size k in
-    let here : meant (g ∷ hs) n ≡ g.place = rw (test, within) refl in
-    sym here ∙ ap (λ xs. meant xs n) (sym e) ∙ so_far
-
-pub meant_behind : (gs hs : List Gap) (g : Gap) (n m : ℕ) → gs ≡ g ∷ hs → g.place ≤ n → g.size ≤ n - g.place → meant gs n ≡ m → meant hs (n - g.size) ≡ m
-meant_behind gs hs g n m e h k so_far =
-    let test : nat_lt n g.place ≡ false = le-ltb n g.place h in
-    let beyond : nat_lt (n - g.place) g.size ≡ false = le-ltb (n - g.place) g.size k in
-    let here : meant (g ∷ hs) n ≡ meant hs (n - g.size) = rw (test, beyond) refl in
-    sym here ∙ ap (λ xs. meant xs n) (sym e) ∙ so_far
-
-pub meant_none : (gs : List Gap) (n m : ℕ) → gs ≡ [] → meant gs n ≡ m → n ≡ m
-meant_none gs n m e so_far = ap (λ xs. meant xs n) (sym e) ∙ so_far

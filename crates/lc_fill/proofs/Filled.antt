@@ -40,12 +40,12 @@ each-more fill last part c d at behind =
     ∙ ap (λ n. followed (fill n (tree_of part)) (each fill last (number_of d) (rest_of d))) (sym at)
 
 -- the row goes on by it
-pub each-pushed : (fill : ℕ → Tree → Filled Tree) (last : ℕ → Filled Trees) (part : Part) (c d : Cursor) (f : FilledTree) (row new : Row) (all : Filled Trees)
+pub each-pushed : (fill : ℕ → Tree → Filled Tree) (last : ℕ → Filled Trees) (part : Part) (c d : Cursor) (f : FilledTree) (old row new : Row) (all : Filled Trees)
     → place_of part ≡ number_of c → IsBehind c (tree_of part) d → tree_view f ≡ fill (place_of part) (tree_of part)
     → ((r : Filled Trees) → onto new r ≡ onto row (followed (tree_view f) r))
     → onto row (each fill last (number_of c) (rest_of c)) ≡ all
     → onto new (each fill last (number_of d) (rest_of d)) ≡ all
-each-pushed fill last part c d f row new all at behind view pushed so_far =
+each-pushed fill last part c d f old row new all at behind view pushed so_far =
     pushed (each fill last (number_of d) (rest_of d))
     ∙ ap (λ x. onto row (followed x (each fill last (number_of d) (rest_of d)))) view
     ∙ ap (onto row) (sym (each-more fill last part c d at behind))

@@ -17,5 +17,5 @@ pub items-preserved : goal.items-preserved
 items-preserved c =
     let a = acts_view c.args.acts.now in
     let (at, behind) = c.in-Ok.ensures in
-    each-pushed (point_filled a) ended c.in-Ok.part c.items.rest c.next_part.new.list c.in_ok-point.point c.items.row c.push.new.self _
+    each-pushed (point_filled a) ended c.in-Ok.part c.items.rest c.next_part.new.list c.in_ok-point.point c.items.row c.items.row c.push.new.self _
     at behind c.in_ok-point.ensures c.in_ok-push.ensures c.items.invariant

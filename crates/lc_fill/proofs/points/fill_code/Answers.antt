@@ -1,5 +1,5 @@
 use Rattle.std.proofs.Common.{sym, ap, ap₂, ◌∙◌}
-use Rattle.std.specs.Prelude.{codes}
+use Rattle.std.specs.Prelude.{codes, Option}
 use Rattle.lc_sexp.specs.Shown.{rest_of, number_of}
 use Rattle.lc_reading.specs.Parts.{tree_of}
 use Rattle.lc_fill.specs.Filled.{kept, each}
@@ -7,6 +7,7 @@ use Rattle.lc_fill.specs.Forms.{section}
 use Rattle.lc_fill.specs.Points.{on_filled, closed, unless_named, storing, head_of, code_filled}
 use Rattle.lc_fill.specs.PlanView.{found}
 use Rattle.lc_fill.specs.Seen.{acts_view, onto}
+use Rattle.lc_fill.specs.declared.edge.Edge.{Edge}
 use Rattle.lc_fill.proofs.points.fill_code.Goals as goal
 
 pub returns-in_default : goal.returns-in_default
@@ -19,7 +20,7 @@ returns c =
     let list = c.args.list in
     let code = tree_of c.in-Ok.code in
     let d = c.next_part.new.list in
-    let ons = λ e. each (on_filled a) (closed a e) in
+    let ons = λ (e : Option Edge). each (on_filled a) (closed a e) in
     let edge = unless_named (rest_of d) (storing (head_of code)) in
     c.in_ok-fill_ons.ensures
     ∙ c.in_ok-keep_section.ensures (ons c.edge_left_out-edge.result)

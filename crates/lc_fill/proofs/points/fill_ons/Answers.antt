@@ -17,5 +17,5 @@ pub items-preserved : goal.items-preserved
 items-preserved c =
     let a = acts_view c.args.acts.now in
     let (at, behind) = c.in-Ok.ensures in
-    each-pushed (on_filled a) (closed a c.args.edge) c.in-Ok.part c.items.rest c.next_part.new.list c.in_ok-on.on c.items.row c.push.new.self _
+    each-pushed (on_filled a) (closed a c.args.edge) c.in-Ok.part c.items.rest c.next_part.new.list c.in_ok-on.on c.items.row c.items.row c.push.new.self _
     at behind c.in_ok-on.ensures c.in_ok-push.ensures c.items.invariant
