@@ -8,10 +8,10 @@ use Rattle.lc_outline.specs.DevelopmentView.{development_view}
 use Rattle.lc_outline_text.specs.Developments.{file_reading}
 use Rattle.lc_fill.specs.Plan.{Plan}
 use Rattle.lc_short.specs.Shorts.{Completes, planned_text}
-use Rattle.lc_short.specs.declared.completing.Completed.{Completed}
+use Rattle.lc_short.specs.declared.completing.Completion.{Completion}
 
 -- a development that completes the file; else the first refusal of the text with what is planned
-abbrev pub IsCompleted : List ℕ → Plan → Trees → Result Completed Fault → Type 0
+abbrev pub IsCompleted : List ℕ → Plan → Trees → Result Completion Fault → Type 0
 IsCompleted bytes plan ts (Ok c) = Completes bytes c.text.items (development_view c.development)
 IsCompleted bytes plan ts (Err (Refused r)) = IsFirstRefusal file_reading (planned_text plan ts) r
 IsCompleted bytes plan ts (Err OutOfMemory) = Unit {0}

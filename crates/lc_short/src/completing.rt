@@ -13,7 +13,7 @@ use std::alloc::Global;
 
 /// A development that was completed.
 #[derive(Drop)]
-pub struct Completed {
+pub struct Completion {
     /// Its two forms, each in a line.
     pub text: Vec<u8>,
     pub development: Development,
@@ -21,13 +21,13 @@ pub struct Completed {
 
 /// The short development of these forms with what is planned put in. If that is no development, `Refused` has the first refusal of
 /// its text.
-pub fn completed(alloc: Global, plan: &Plan, forms: &Forms) -> Result<Completed, Fault>
+pub fn completed(alloc: Global, plan: &Plan, forms: &Forms) -> Result<Completion, Fault>
     ensures { (bytes : List ℕ) → ReadsAs bytes forms.now → IsCompleted bytes (plan_view plan.now) forms.now result }
 {
     let filling = fill(alloc, plan, forms)?;
     let text = filling.text(alloc)?;
     match development_of(alloc, &text) {
-        Ok(development) => Ok(Completed { text, development }),
+        Ok(development) => Ok(Completion { text, development }),
         Err(fault) => Err(fault),
     }
 }

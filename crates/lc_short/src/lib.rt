@@ -6,6 +6,6 @@ pub mod laws;
 mod reading;
 mod short;
 
-pub use completing::{Completed, completed};
+pub use completing::{Completion, completed};
 pub use reading::{short_in, short_of};
 pub use short::Short;

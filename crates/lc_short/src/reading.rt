@@ -26,6 +26,13 @@ fn at_meant(filling: &Filling, refusal: Refusal) -> Refusal
     }
 }
 
+/// The same, where nothing else is asked of what was filled.
+fn meant_in(filling: Filling, refusal: Refusal) -> Refusal
+    ensures { result ≡ at_meant (filling_view filling).gaps refusal }
+{
+    at_meant(&filling, refusal)
+}
+
 /// What the forms of a file say with what was left out put in.
 fn read_filled(alloc: Global, forms: &Forms) -> Result<Short, Fault>
     ensures { IsFilledAnswer forms.now result }
@@ -35,7 +42,7 @@ fn read_filled(alloc: Global, forms: &Forms) -> Result<Short, Fault>
     let text = filling.text(alloc)?;
     let whole = match development_of(alloc, &text) {
         Ok(whole) => whole,
-        Err(Fault::Refused(refusal)) => return Err(Fault::Refused(at_meant(&filling, refusal))),
+        Err(Fault::Refused(refusal)) => return Err(Fault::Refused(meant_in(filling, refusal))),
         Err(Fault::OutOfMemory) => return Err(Fault::OutOfMemory),
     };
     let lacking = Vec::from_slice(alloc, filling.lacking())?;

@@ -8,7 +8,7 @@ ghost use Rattle.lc_short.specs.Completing.{IsCompleted};
 use lc_base::Fault;
 use lc_fill::Plan;
 use lc_sexp::Forms;
-use lc_short::{Completed, Short, completed, short_in, short_of};
+use lc_short::{Completion, Short, completed, short_in, short_of};
 use std::alloc::Global;
 
 /// For a file, the short development that it says is returned, or its first refusal.
@@ -30,7 +30,7 @@ pub fn completing_a_development(
     alloc: Global,
     plan: &Plan,
     forms: &Forms,
-) -> Result<Completed, Fault>
+) -> Result<Completion, Fault>
     ensures { (bytes : List ℕ) → ReadsAs bytes forms.now → IsCompleted bytes (plan_view plan.now) forms.now result }
 {
     completed(alloc, plan, forms)

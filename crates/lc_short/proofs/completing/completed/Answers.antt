@@ -20,7 +20,7 @@ returns-in-Ok c = λ bytes reads.
       says = subst (λ s. Says file_reading s (development_view c.in-Ok.development)) c.deref.ensures.value c.in-Ok.ensures;
     }
 
-pub returns-in-Err : goal.returns-in-Err
-returns-in-Err c = λ bytes reads.
+pub returns : goal.returns
+returns c = λ bytes reads.
     let text = c.deref.ensures.value ∙ c.in_ok-text.ensures ∙ ap (λ (f : Filled Trees). printed f.whole) c.in_ok-filling.ensures in
     not_completed bytes (plan_view c.args.plan.now) c.args.forms.now c.deref.result.now c.in-Err.fault text c.in-Err.ensures
