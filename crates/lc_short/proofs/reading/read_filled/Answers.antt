@@ -24,4 +24,5 @@ returns-in-Err-Refused c =
     let filled = c.in_ok-filling.ensures ∙ ap (λ p. file_filled p ts) c.in_ok-plan.ensures in
     let text = c.deref.ensures.value ∙ c.in_ok-text.ensures ∙ ap (λ (f : Filled Trees). printed f.whole) filled in
     let refusal = c.in-Err-Refused.refusal in
-    (refusal, subst (λ s. IsFirstRefusal file_reading s refusal) text (rw c.in-Err-Refused.field-0-is at c.in-Err-Refused.ensures), c.meant_in.ensures ∙ ap (λ (f : Filled Trees). at_meant f.gaps refusal) filled)
+    let meant = rw c.in-Err-Refused.field-0-is at c.meant_in.ensures in
+    (refusal, subst (λ s. IsFirstRefusal file_reading s refusal) text (rw c.in-Err-Refused.field-0-is at c.in-Err-Refused.ensures), meant ∙ ap (λ (f : Filled Trees). at_meant f.gaps refusal) filled)
