@@ -1,0 +1,6 @@
+mod Rows
+mod Lists
+mod Filled
+mod Calls
+mod Names
+mod Drops

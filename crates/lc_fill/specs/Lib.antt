@@ -1,0 +1,10 @@
+pub mod Filled
+pub mod Plan
+pub mod PlanView
+pub mod Gaps
+pub mod Forms
+pub mod Acts
+pub mod Points
+pub mod Files
+pub mod Seen
+pub mod FillingView

@@ -1,0 +1,4 @@
+pub mod Shorts
+pub mod Answers
+pub mod ShortView
+pub mod Completing
