@@ -1,11 +1,8 @@
 -- Calls that are put in.
-use Rattle.std.proofs.Common.{◌≡◌, ℕ, Bool, true, false, List, [], ◌∷◌, refl, sym, ap, ◌∙◌, arith}
-use Rattle.std.specs.Prelude.{◌==◌, codes, if◌then◌else◌}
-use Rattle.std.proofs.lemmas.Bool.{eqb-true, ne_eqb}
+use Rattle.std.proofs.Common.{◌≡◌, ℕ, Bool, true, false, List, [], ◌∷◌, refl, ap, ◌∙◌}
+use Rattle.std.specs.Prelude.{if◌then◌else◌}
 use Rattle.lc_sexp.specs.Trees.{Tree, Trees, atom, list, none, ◌▸◌, row}
-use Rattle.lc_sexp.specs.Shown.{part_count}
-use Rattle.lc_fill.specs.Acts.{Acts, called, is_none, call_at, is_lacking, stand_in_of}
-use Rattle.lc_fill.specs.Forms.{bare}
+use Rattle.lc_fill.specs.Acts.{Acts, call_at, is_lacking}
 use Rattle.lc_fill.specs.Filled.{Filled, as_is, put, lacking_at}
 use Rattle.lc_fill.specs.Points.{has_call, call_filled, put_call}
 use Rattle.lc_fill.specs.Seen.{onto}
@@ -29,21 +26,3 @@ called-put a row behind n t b r same e step = put-called a row behind n t b r e 
 pub on-line : (on word name call : Tree) (w v : List ℕ) (t : Tree) → on ≡ list (row (word ∷ name ∷ call ∷ [])) → word ≡ atom w → name ≡ atom v → call ≡ t
     → on ≡ list (atom w ▸ atom v ▸ t ▸ none)
 on-line on word name call w v t e f g h = rw (e, f, g, h) refl
-
--- what is planned as a call, and what is put in where none is
-pub called-none : (a : Acts) (ts : Trees) → (part_count ts == 0) ≡ true → called a ts ≡ bare a.stand_in
-called-none a none h = refl
-called-none a (t ▸ ts) h = absurd (omega (arith, eqb-true (part_count (t ▸ ts)) 0 h))
-
-pub called-some : (a : Acts) (ts : Trees) → (part_count ts == 0) ≡ false → called a ts ≡ list ts
-called-some a none h = cc
-called-some a (t ▸ ts) h = refl
-
-pub is_none-count : (ts : Trees) → (part_count ts == 0) ≡ is_none ts
-is_none-count none = refl
-is_none-count (t ▸ ts) = ne_eqb (part_count (t ▸ ts)) 0 (λ e. omega (arith, e))
-
--- (action NAME () (and))
-pub stand_in-line : (a : Acts) (action word name parameters guard : Tree) → action ≡ list (row (word ∷ name ∷ parameters ∷ guard ∷ [])) → word ≡ atom (codes "action")
-    → name ≡ atom a.stand_in → parameters ≡ list none → guard ≡ bare (codes "and") → action ≡ stand_in_of a
-stand_in-line a action word name parameters guard e f g h k = rw (e, f, g, h, k) refl
