@@ -1,0 +1,6 @@
+pub mod Once
+mod Linearized
+mod Refuted
+mod Based
+mod Stored
+pub mod Determined

@@ -1,0 +1,4 @@
+pub mod Scripts
+pub mod Stages
+pub mod Laws
+pub mod Storing
