@@ -1,6 +1,5 @@
-pub mod Once
+mod Once
 mod Linearized
 mod Refuted
 mod Based
 mod Stored
-pub mod Determined
