@@ -1,4 +1,9 @@
+use Rattle.std.proofs.Common.{Some}
+use Rattle.lincheck.specs.Judge.{AnswersJudge}
+use Rattle.lincheck_claims.proofs.AnyFile.{ends_known}
 use Rattle.lincheck_claims.proofs.Program.judging_a_history.Goals as goal
 
 pub returns : goal.returns
-returns g c = c.execute.ensures _
+returns g c = λ ask.
+    let files = c.args.self.now.files in
+    ends_known files.0.now (λ f. AnswersJudge f (Some files.1.now)) (c.execute.ensures _ ask)
