@@ -14,7 +14,7 @@ ends_as task A B before after status f (inl failed) = inl failed
 ends_as task A B before after status f (inr (text, said, is, printed)) = inr (text, said, f text said is, printed)
 
 -- the answer to a file whose bytes are known
-pub ends_known : {task : Task} (file : List ℕ) (Answers : List ℕ → List ℕ → ℕ → Type 0) {before after : Option (List ℕ)} {status : ℕ}
+pub ends_known : (task : Task) (file : List ℕ) (Answers : List ℕ → List ℕ → ℕ → Type 0) (before after : Option (List ℕ)) (status : ℕ)
     → Ends task (λ text said. OfFile (Some file) (λ f. Answers f text said)) before after status → Ends task (Answers file) before after status
-ends_known file Answers (inl failed) = inl failed
-ends_known file Answers (inr (text, said, (read, same, is), printed)) = inr (text, said, subst (λ f. Answers f text said) same is, printed)
+ends_known task file Answers before after status (inl failed) = inl failed
+ends_known task file Answers before after status (inr (text, said, (read, same, is), printed)) = inr (text, said, subst (λ f. Answers f text said) same is, printed)

@@ -1,4 +1,5 @@
-use Rattle.std.proofs.Common.{Some}
+use Rattle.std.proofs.Common.{codes, Some}
+use Rattle.lc_words.specs.Tasks.{JudgeHistory}
 use Rattle.lincheck.specs.Judge.{AnswersJudge}
 use Rattle.lincheck_claims.proofs.AnyFile.{ends_known}
 use Rattle.lincheck_claims.proofs.Program.judging_a_history.Goals as goal
@@ -6,4 +7,5 @@ use Rattle.lincheck_claims.proofs.Program.judging_a_history.Goals as goal
 pub returns : goal.returns
 returns g c = λ ask.
     let files = c.args.self.now.files in
-    ends_known files.0.now (λ f. AnswersJudge f (Some files.1.now)) (c.execute.ensures _ ask)
+    let task = JudgeHistory (codes "a") (codes "b") in
+    ends_known task files.0.now (λ f. AnswersJudge f (Some files.1.now)) (Some c.args.judgement.now.items) (Some c.execute.new.text.items) c.execute.result (c.execute.ensures task ask)
