@@ -1,0 +1,74 @@
+//! How a short development is made whole.
+ghost use Rattle.std.specs.Prelude.{◌≡◌, ℕ, List, IfOk};
+ghost use Rattle.lc_fill.specs.Plan.{no_plan};
+ghost use Rattle.lc_layout.specs.Layout.{laid_out};
+ghost use Rattle.lc_sexp.specs.Reads.{ReadsAs};
+ghost use Rattle.lc_sexp.specs.Trees.{Trees};
+ghost use Rattle.lc_short.specs.Completing.{IsCompleted};
+ghost use Rattle.lc_complete.specs.Making.{IsAnswer};
+
+use lc_base::{Fault, OutOfMemory};
+use lc_fill::Plan;
+use lc_guess::guess;
+use lc_layout::lay_out;
+use lc_outline::Development;
+use lc_sexp::Forms;
+use lc_short::{Completion, completed, short_in};
+use std::alloc::Global;
+
+/// A short development that was made whole.
+#[derive(Drop)]
+pub struct Made {
+    /// Its two forms, over lines.
+    pub text: Vec<u8>,
+    pub development: Development,
+}
+
+/// The forms of a text, over lines. The text was read before, so no fault is in it.
+fn laid(alloc: Global, text: &[u8]) -> Result<Vec<u8>, OutOfMemory>
+    ensures { IfOk result (λ laid. (forms : Trees) × ReadsAs text.now forms × (laid.items ≡ laid_out forms)) }
+{
+    match Forms::read(alloc, text) {
+        Ok(forms) => {
+            let laid = lay_out(alloc, forms.cursor())?;
+            Ok(laid)
+        }
+        Err(_) => Err(OutOfMemory),
+    }
+}
+
+/// The short development of these forms with nothing planned.
+fn completed_plainly(alloc: Global, forms: &Forms) -> Result<Completion, Fault>
+    ensures { (bytes : List ℕ) → ReadsAs bytes forms.now → IsCompleted bytes no_plan forms.now result }
+{
+    let plan = Plan::none(alloc)?;
+    completed(alloc, &plan, forms)
+}
+
+/// The short development of these forms, in which the calls at these places lack, with what is guessed put in; if it is refused so, with
+/// nothing planned.
+fn completed_by_guesses(alloc: Global, forms: &Forms, lacking: &[u64]) -> Result<Completion, Fault>
+    ensures { (bytes : List ℕ) → ReadsAs bytes forms.now → IsCompleted bytes no_plan forms.now result }
+{
+    let plan = guess(alloc, forms, lacking)?;
+    match completed(alloc, &plan, forms) {
+        Ok(completion) => Ok(completion),
+        Err(Fault::Refused(_)) => completed_plainly(alloc, forms),
+        Err(Fault::OutOfMemory) => Err(Fault::OutOfMemory),
+    }
+}
+
+/// The short development of the file with these forms, made whole. What was guessed need not hold: whether all conditions of the development
+/// are valid is for the finder to say.
+///
+/// If the file is no short development, `Refused` has its first refusal, as of `lc_short::short_in`. If it is one, and its text is not within the limits
+/// with what was left out put in, `Refused` has the first refusal of that text.
+pub fn complete(alloc: Global, forms: &Forms) -> Result<Made, Fault>
+    ensures { (bytes : List ℕ) → ReadsAs bytes forms.now → IsAnswer bytes result }
+{
+    let short = short_in(alloc, forms)?;
+    let completion = completed_by_guesses(alloc, forms, short.lacking())?;
+    let text = laid(alloc, &completion.text)?;
+    let Completion { development, .. } = completion;
+    Ok(Made { text, development })
+}

@@ -1,0 +1,100 @@
+//! What is looked at of an object.
+use crate::text::{each_item, first_text, items_within, later, mentions, push_parts};
+use lc_base::OutOfMemory;
+use lc_reading::{NameTable, Part};
+use lc_sexp::Cursor;
+use std::alloc::Global;
+
+/// How many claims of the invariant are looked at, and how long they may be.
+const MOST_CLAIMS: usize = 64;
+
+const LONGEST_CLAIM: usize = 256;
+
+/// An object.
+pub(crate) struct Object<'a> {
+    arrays: NameTable<'a>,
+    /// The columns of each array: `(COL A B) ..`.
+    columns: Vec<Cursor<'a>>,
+    /// What the invariant claims, one after the other, of the beginning of it.
+    pub(crate) claims: Vec<String>,
+    /// The names of the actions that it declares.
+    pub(crate) actions: NameTable<'a>,
+    /// Whether clients mark calls of others.
+    pub(crate) is_helped: bool,
+}
+
+impl Drop for Object<'_> {
+    fn drop(self) {
+        let Object {
+            arrays: _,
+            columns: _,
+            claims: _,
+            actions: _,
+            is_helped: _,
+        } = self;
+    }
+}
+
+/// Appends what a conjunct `(NAME F)` claims.
+fn push_claims(
+    alloc: Global,
+    claims: &mut Vec<String>,
+    conjunct: Part<'_>,
+) -> Result<(), OutOfMemory> {
+    let mut parts = Vec::new(alloc);
+    for formula in each_item(later(items_within(conjunct))) {
+        push_parts(alloc, &mut parts, formula)?;
+    }
+    for part in parts {
+        if claims.len() < MOST_CLAIMS && part.len() <= LONGEST_CLAIM {
+            claims.push(part)?;
+        }
+    }
+    Ok(())
+}
+
+impl<'a> Object<'a> {
+    /// The object with these parts.
+    pub(crate) fn new(alloc: Global, parts: Cursor<'a>) -> Result<Object<'a>, OutOfMemory> {
+        let mut arrays = NameTable::new(alloc);
+        let mut columns = Vec::new(alloc);
+        let mut claims = Vec::new(alloc);
+        let mut actions = NameTable::new(alloc);
+        for part in each_item(parts) {
+            let inside = items_within(part);
+            let behind = later(inside);
+            match first_text(inside) {
+                "array" => {
+                    arrays = arrays.enter(first_text(behind))?;
+                    columns.push(later(behind))?;
+                }
+                "action" => actions = actions.enter(first_text(behind))?,
+                "invariant" => {
+                    for conjunct in each_item(behind) {
+                        push_claims(alloc, &mut claims, conjunct)?;
+                    }
+                }
+                _ => {}
+            }
+        }
+        let is_helped = mentions(parts, "lin-other") || mentions(parts, "lin-other-by");
+        Ok(Object {
+            arrays,
+            columns,
+            claims,
+            actions,
+            is_helped,
+        })
+    }
+
+    /// The columns of the array of a name.
+    pub(crate) fn columns_of(&self, name: &str) -> Cursor<'a> {
+        match self.arrays.place(name) {
+            Some(place) => match self.columns.get(place) {
+                Some(columns) => *columns,
+                None => Cursor::empty(),
+            },
+            None => Cursor::empty(),
+        }
+    }
+}

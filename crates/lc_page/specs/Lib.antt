@@ -1,0 +1,3 @@
+pub mod Unmarked
+pub mod Pages
+pub mod Stored
