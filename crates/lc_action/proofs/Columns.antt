@@ -1,11 +1,12 @@
 -- Columns after stores, one entry or one update after another.
 use Rattle.std.proofs.Common.{◌≡◌, ℕ, Bool, true, false, ◌==◌, if◌then◌else◌, List, [], ◌∷◌, ◌++◌, refl, sym, ap, ◌∙◌, inl, inr}
 use Rattle.std.proofs.lemmas.Bool.Decides.{eqb_tells}
+use Rattle.std.proofs.lemmas.Bool.{eqb-true}
 use mathlib.Core.Path.{fun_ext}
 use Rattle.lc_term.specs.Syntax.{Term, Column, Base, Store}
 use Rattle.lc_term.specs.Said.{put}
 use Rattle.lc_action.specs.Telling.{column_at}
-pub use Rattle.lc_table.proofs.Entries.{IsAbsent, eq_true_same, column_at_entry, column_at_absent, absent-more}
+pub use Rattle.lc_term.proofs.Entries.{IsAbsent, column_at_entry, column_at_absent, absent-more}
 
 -- another entry for a column in place of one, or in place of none
 put_at : (c : ℕ) (ps qs : List (ℕ × Column)) (x : Column) (i v : Term) (d : ℕ) → IsAbsent c ps →
@@ -18,7 +19,7 @@ put_at c ps qs x i v d h = by (c == d) refl
 
     by : (b : Bool) → (c == d) ≡ b → column_at (ps ++ (c, Store x i v) ∷ qs) d ≡ (if c == d then Store (column_at (ps ++ (c, x) ∷ qs) d) i v else column_at (ps ++ (c, x) ∷ qs) d)
     by true e =
-        let is : c ≡ d = eq_true_same c d e in
+        let is : c ≡ d = eqb-true c d e in
         ap (column_at (ps ++ (c, Store x i v) ∷ qs)) (sym is) ∙ column_at_entry c ps qs (Store x i v) h
         ∙ sym (ap (λ b. if b then Store (column_at (ps ++ (c, x) ∷ qs) d) i v else column_at (ps ++ (c, x) ∷ qs) d) e
         ∙ ap (λ y. Store y i v) (ap (column_at (ps ++ (c, x) ∷ qs)) (sym is) ∙ column_at_entry c ps qs x h))

@@ -2,6 +2,7 @@
 use Rattle.std.proofs.Common.{◌≡◌, ℕ, zero, suc, ◌+◌, ◌<◌, true, ◌==◌, List, [], ◌∷◌, ◌++◌, length, take, drop, map, get_or, sym, ap, ap₂, ◌∙◌, subst, arith, add-one}
 use Rattle.std.specs.Prelude.{slice_set}
 use Rattle.std.proofs.lemmas.List.{drop_more, map-append, set_split, set-set, get_or-set_same}
+use Rattle.std.proofs.lemmas.Bool.{eqb-true}
 use Rattle.lc_base.specs.declared.ids.ColId.{ColId}
 use Rattle.lc_term.specs.Syntax as S
 use Rattle.lc_term.specs.Said.{put, puts, said}
@@ -10,8 +11,8 @@ use Rattle.lc_term.specs.declared.term.ColExpr.{ColExpr}
 use Rattle.lc_term.specs.UpdateView.{update_of, updates_of}
 use Rattle.lc_term.specs.declared.update.Update.{Update}
 use Rattle.lc_action.specs.Telling.{column_at, entry_of, columns_in}
-use Rattle.lc_action.proofs.Columns.{IsAbsent, eq_true_same, put_in_place, put_behind}
-pub use Rattle.lc_table.proofs.Entries.{list_split_at, entry_found, absent_step}
+use Rattle.lc_action.proofs.Columns.{IsAbsent, put_in_place, put_behind}
+pub use Rattle.lc_term.proofs.Entries.{list_split_at, entry_found, absent_step}
 
 -- the entries round one
 split_entries : (cs : List (ColId × ColExpr)) (i : ℕ) (p : ColId × ColExpr) → i < length cs → p ≡ get_or cs i p →
@@ -35,7 +36,7 @@ store_in_place cs k p new c i v h is at absent becomes =
     ∙ ap column_at (map-append entry_of (take k cs) (new ∷ drop (k + 1) cs) ∙ ap (λ x. map entry_of (take k cs) ++ x ∷ map entry_of (drop (k + 1) cs)) becomes)
     ∙ put_in_place c (map entry_of (take k cs)) (map entry_of (drop (k + 1) cs)) (column_of p.1) i v absent
     ∙ ap (λ (σ : ℕ → S.Column). put σ (record { column = c; index = i; value = v }))
-    (ap column_at (ap (λ m. map entry_of (take k cs) ++ (m, column_of p.1) ∷ map entry_of (drop (k + 1) cs)) (sym (eq_true_same p.0.0 c at)) ∙ sym (split_entries cs k p h is)))
+    (ap column_at (ap (λ m. map entry_of (take k cs) ++ (m, column_of p.1) ∷ map entry_of (drop (k + 1) cs)) (sym (eqb-true p.0.0 c at)) ∙ sym (split_entries cs k p h is)))
 
 pub store_behind : (cs : List (ColId × ColExpr)) (new : ColId × ColExpr) (c : ℕ) (i v : S.Term) → IsAbsent c (map entry_of cs) → entry_of new ≡ (c, S.Store (S.Base c) i v) →
     columns_in (cs ++ new ∷ []) ≡ put (columns_in cs) (record { column = c; index = i; value = v })
@@ -55,7 +56,7 @@ pub replaced_entry : (cs : List (ColId × ColExpr)) (k : ℕ) (p m n : ColId × 
     columns_in (slice_set (slice_set cs k (m.0, dest)) k (n.0, x)) ≡ put (columns_in cs) (record { column = c; index = i; value = v })
 replaced_entry cs k p m n dest x before c i v h isp ism isn test was becomes absent =
     let there : (m.0.0 == c) ≡ true = subst (λ (q : ColId × ColExpr). (q.0.0 == c) ≡ true) (same_item cs k p m h isp ism) test in
-    let column : n.0.0 ≡ c = ap (λ (q : ColId × ColExpr). q.0.0) (isn ∙ get_or-set_same cs k (m.0, dest) n h) ∙ eq_true_same m.0.0 c there in
+    let column : n.0.0 ≡ c = ap (λ (q : ColId × ColExpr). q.0.0) (isn ∙ get_or-set_same cs k (m.0, dest) n h) ∙ eqb-true m.0.0 c there in
     let value : column_of x ≡ S.Store (column_of m.1) i v = becomes ∙ ap (λ y. S.Store (column_of y) i v) was in
     ap (λ xs. columns_in xs) (set-set cs k (m.0, dest) (n.0, x))
     ∙ store_in_place cs k m (n.0, x) c i v h ism there absent (ap₂ (λ a b. (a, b)) column value)

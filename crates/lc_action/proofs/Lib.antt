@@ -1,4 +1,4 @@
 pub mod Columns
 mod Entries
 mod Tellable
-mod OwnUpdates
+pub mod OwnUpdates

@@ -1,9 +1,7 @@
 -- Terms stored in the cells of a client, one after another.
-use Rattle.std.proofs.Common.{◌≡◌, ℕ, ◌+◌, ◌<◌, ◌≤◌, List, [], ◌∷◌, ◌++◌, length, drop, map, get_or, refl, sym, ap, ap₂, ◌∙◌, append-nil}
-use Rattle.std.proofs.lemmas.List.{drop_more}
+use Rattle.std.proofs.Common.{◌≡◌, ℕ, ◌≤◌, List, [], ◌∷◌, ◌++◌, length, drop, map, refl, sym, ap, ◌∙◌, append-nil}
 use Rattle.std.proofs.Math.ListN.{drop_of_length-le}
 use Rattle.lc_base.specs.declared.ids.ColId.{ColId}
-use Rattle.lc_term.specs.Syntax as S
 use Rattle.lc_term.specs.Updates as U
 use Rattle.lc_term.specs.Said.{at_client}
 use Rattle.lc_term.specs.View.{term_of}
@@ -12,7 +10,7 @@ use Rattle.lc_term.specs.declared.term.Term.{Term}
 abbrev pub numbers_of : List ColId → List ℕ
 numbers_of cs = map (λ c. c.0) cs
 
-no_terms : (cs : List ℕ) → at_client cs [] ≡ []
+pub no_terms : (cs : List ℕ) → at_client cs [] ≡ []
 no_terms [] = refl
 no_terms (c ∷ cs) = refl
 

@@ -4,7 +4,7 @@ use Rattle.lc_base.specs.declared.ids.ColId.{ColId}
 use Rattle.lc_term.specs.Replacement.{Replacement, replacing, under_many}
 use Rattle.lc_term.specs.Places.{Test, term_passes, column_passes, no_bounds}
 use Rattle.lc_term.specs.Said.{term_at}
-pub use Rattle.lc_table.specs.Put.{column_at, entry_of, columns_in}
+pub use Rattle.lc_term.specs.Entries.{column_at, entry_of, columns_in}
 use Rattle.lc_term.specs.View.{term_of}
 use Rattle.lc_term.specs.declared.term.Term.{Term}
 use Rattle.lc_term.specs.declared.term.ColExpr.{ColExpr}

@@ -1,2 +1,1 @@
 pub mod Truths
-mod Still

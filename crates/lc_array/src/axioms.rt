@@ -72,7 +72,7 @@ fn has_value(
 }
 
 /// `(= (rd C i) (rd D j))`.
-#[tactic(auto, using(lc_table::proofs::Later::term_is, lc_table::proofs::Later::term_later, lc_table::proofs::Later::is_term_later, lc_table::proofs::Later::is_term_still, crate::proofs::Still::is_column_still, lc_table::proofs::Later::keeps_itself, lc_table::proofs::Later::kept_on))]
+#[tactic(auto, using(lc_table::proofs::Later::term_is, lc_table::proofs::Later::term_later, lc_table::proofs::Later::is_term_later, lc_table::proofs::Later::is_term_still, lc_table::proofs::Later::is_column_still, lc_table::proofs::Later::keeps_itself, lc_table::proofs::Later::kept_on))]
 fn agree(
     terms: &mut Terms,
     column: ColExprId,
@@ -93,7 +93,7 @@ fn agree(
 }
 
 /// `(and (= i j) (= (rd D j) v))`, where `D` is the column afterwards.
-#[tactic(auto, using(lc_table::proofs::Later::is_formula_later, lc_table::proofs::Later::is_term_still, crate::proofs::Still::is_column_still, lc_table::proofs::Later::keeps_itself, lc_table::proofs::Later::kept_on))]
+#[tactic(auto, using(lc_table::proofs::Later::is_formula_later, lc_table::proofs::Later::is_term_still, lc_table::proofs::Later::is_column_still, lc_table::proofs::Later::keeps_itself, lc_table::proofs::Later::kept_on))]
 fn written_there(
     terms: &mut Terms,
     alloc: Global,
@@ -115,7 +115,7 @@ fn written_there(
 }
 
 /// `(and (not (= i j)) (= (rd D j) (rd C j)))`, where `D` is the column afterwards.
-#[tactic(auto, using(lc_table::proofs::Later::is_formula_later, lc_table::proofs::Later::is_term_still, crate::proofs::Still::is_column_still, lc_table::proofs::Later::keeps_itself, lc_table::proofs::Later::kept_on))]
+#[tactic(auto, using(lc_table::proofs::Later::is_formula_later, lc_table::proofs::Later::is_term_still, lc_table::proofs::Later::is_column_still, lc_table::proofs::Later::keeps_itself, lc_table::proofs::Later::kept_on))]
 fn kept_elsewhere(
     terms: &mut Terms,
     alloc: Global,
@@ -137,7 +137,7 @@ fn kept_elsewhere(
 }
 
 /// The axiom of a stored value, of the column afterwards.
-#[tactic(auto, using(lc_table::proofs::Later::is_formula_later, lc_table::proofs::Later::is_term_still, crate::proofs::Still::is_column_still, lc_table::proofs::Later::keeps_itself, lc_table::proofs::Later::kept_on))]
+#[tactic(auto, using(lc_table::proofs::Later::is_formula_later, lc_table::proofs::Later::is_term_still, lc_table::proofs::Later::is_column_still, lc_table::proofs::Later::keeps_itself, lc_table::proofs::Later::kept_on))]
 fn after_writing(
     terms: &mut Terms,
     alloc: Global,
@@ -163,7 +163,7 @@ fn after_writing(
 /// `(or (and (= i j) (= (rd (store C i v) j) v)) (and (not (= i j)) (= (rd (store C i v) j) (rd C j))))`, where the
 /// value `v` is stored in column `C` at the index `i`, and `j` is the other index: the cell at `j` has `v` if `i`
 /// and `j` are the same, and else what it had.
-#[tactic(auto, using(lc_table::proofs::Later::is_column_later, lc_table::proofs::Later::is_term_still, crate::proofs::Still::is_column_still, lc_table::proofs::Later::keeps_itself, lc_table::proofs::Later::kept_on))]
+#[tactic(auto, using(lc_table::proofs::Later::is_column_later, lc_table::proofs::Later::is_term_still, lc_table::proofs::Later::is_column_still, lc_table::proofs::Later::keeps_itself, lc_table::proofs::Later::kept_on))]
 pub fn written_axiom(
     terms: &mut Terms,
     alloc: Global,
@@ -184,7 +184,7 @@ pub fn written_axiom(
 }
 
 /// `(or (not (= i j)) (= (rd C i) (rd C j)))`: at one index a column has one number.
-#[tactic(auto, using(lc_table::proofs::Later::is_formula_later, lc_table::proofs::Later::is_term_still, crate::proofs::Still::is_column_still, lc_table::proofs::Later::keeps_itself, lc_table::proofs::Later::kept_on))]
+#[tactic(auto, using(lc_table::proofs::Later::is_formula_later, lc_table::proofs::Later::is_term_still, lc_table::proofs::Later::is_column_still, lc_table::proofs::Later::keeps_itself, lc_table::proofs::Later::kept_on))]
 pub fn same_index_axiom(
     terms: &mut Terms,
     alloc: Global,

@@ -1,4 +1,4 @@
--- How large and how many the parts of a text, of a run and of a check may be.
+-- How large and how many the parts of a text may be, and what crates side by side share.
 use Rattle.std.specs.Prelude.{ℕ}
 
 -- the most bytes of a file
@@ -61,18 +61,6 @@ path_limit = 64
 abbrev pub condition_limit : ℕ
 condition_limit = 100000
 
--- the greatest number of a client in a history
-abbrev pub client_limit : ℕ
-client_limit = 1000000
-
 -- the most clients of a run, each with a seat
 abbrev pub seat_limit : ℕ
 seat_limit = 64
-
--- the most labels of a run: one for each call, each instruction and each return
-abbrev pub label_limit : ℕ
-label_limit = 1000000
-
--- the most workers that check a certificate side by side
-abbrev pub worker_limit : ℕ
-worker_limit = 64

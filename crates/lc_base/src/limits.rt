@@ -1,5 +1,5 @@
-//! How large and how many the parts of a text, of a run and of a check may be. `specs/Limits.antt` has the same numbers, by the
-//! same words.
+//! How large and how many the parts of a text may be, and what crates side by side share. `specs/Limits.antt` has the same numbers,
+//! by the same words.
 
 /// The most bytes of a file.
 pub const FILE_LIMIT: u64 = 16_777_216;
@@ -46,14 +46,5 @@ pub const PATH_LIMIT: u64 = 64;
 /// The most conditions of a development.
 pub const CONDITION_LIMIT: u64 = 100_000;
 
-/// The greatest number of a client in a history.
-pub const CLIENT_LIMIT: u32 = 1_000_000;
-
 /// The most clients of a run, each with a seat.
 pub const SEAT_LIMIT: u32 = 64;
-
-/// The most labels of a run: one for each call, each instruction and each return.
-pub const LABEL_LIMIT: usize = 1_000_000;
-
-/// The most workers that check a certificate side by side.
-pub const WORKER_LIMIT: u64 = 64;

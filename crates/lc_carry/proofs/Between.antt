@@ -3,7 +3,7 @@ use Rattle.std.proofs.Common.{◌≡◌, ℕ, List, map, Option, Some, None, opt
 use Rattle.std.proofs.lemmas.Option.{slice_get-map}
 use Rattle.std.specs.Prelude.{option_and_then}
 use Rattle.lc_base.specs.declared.ids.ColId.{ColId}
-use Rattle.lc_rename.specs.Renaming.{column_for}
+use Rattle.lc_carry.specs.Renaming.{column_for}
 
 -- the number of a column, if there is one
 abbrev pub number_in : Option ColId → Option ℕ

@@ -1,8 +1,9 @@
 -- The least of the old conditions is the one whose proof is carried.
-use Rattle.std.proofs.Common.{◌≡◌, ◌≢◌, ℕ, zero, suc, ◌+◌, ◌<◌, ◌≤◌, ◌⊎◌, inl, inr, Bool, true, false, ◌&&◌, cond, List, [], ◌∷◌, ◌++◌, Option, Some, None, option_map, slice_get, refl, sym, ap, ap₂, ◌∙◌, subst, arith, add-zero, zero-add}
+use Rattle.std.proofs.Common.{◌≡◌, ◌≢◌, ℕ, zero, suc, ◌+◌, ◌<◌, ◌≤◌, ◌⊎◌, inl, inr, Bool, true, false, ◌&&◌, cond, List, [], ◌∷◌, ◌++◌, Option, Some, None, option_map, slice_get, refl, sym, ap, ◌∙◌, subst, arith, add-zero, zero-add}
 use Rattle.std.proofs.lemmas.Bool.Decides.{eqb_tells}
 use Rattle.std.specs.Prelude.{◌==◌, option_and_then}
-use Rattle.lc_carry.proofs.Keys.{same_text}
+use Rattle.std.proofs.lemmas.Bool.{and_from}
+use Rattle.lc_lemmas.proofs.Booleans.{and_parts}
 use Rattle.lc_carry.specs.Carried.{can_carry, least_number, renamed_at, entry_for, carried_from, carried_proof, carried, column_between}
 use Rattle.lc_carry.specs.CarriedFrom.{IsCarriedFrom, IsLeast, CarriesLeast, CarriesNothingElse}
 use Rattle.lc_cert.specs.Certificates.{Entry, proof_at}
@@ -12,7 +13,8 @@ use Rattle.lc_kernel.specs.Proofs.{Proof}
 use Rattle.lc_outline.specs.Development.{Development}
 use Rattle.lc_reading.proofs.Words.{is-true}
 use Rattle.lc_reading.specs.Words.{is}
-use Rattle.lc_rename.specs.RenamedProofs.{is_covered, renamed}
+use Rattle.lc_carry.specs.RenamedProofs.{is_covered, renamed}
+use Rattle.lc_text.proofs.Printed.{same_refl}
 
 -- ---- the proof of a number
 
@@ -49,12 +51,6 @@ module _ (E : Development) (f : List ℕ → Option Proof) where
       ∙ subst (λ m. proof_at (carried_from E f (suc n) cs) m ≡ option_and_then (λ d. f (statement_text E d)) (slice_get cs i)) next (found_at (suc n) cs i)
 
 -- ---- the least number
-
-both_true : (a b : Bool) → (a && b) ≡ true → (a ≡ true) × (b ≡ true)
-both_true true true h = (refl, refl)
-both_true true false h = absurd (let no : false ≡ true = h in cc)
-both_true false true h = absurd (let no : false ≡ true = h in cc)
-both_true false false h = absurd (let no : false ≡ true = h in cc)
 
 module _ (D : Development) (es : List Entry) (to : ℕ → Option ℕ) (t : List ℕ) where
   -- this old condition is noted
@@ -136,9 +132,6 @@ carriable to (Some p) h = (p, refl, h)
 can : (to : ℕ → Option ℕ) (o : Option Proof) (p : Proof) → o ≡ Some p → is_covered to p ≡ true → can_carry to o ≡ true
 can to o p is h = ap (can_carry to) is ∙ h
 
-both : (a b : Bool) → a ≡ true → b ≡ true → (a && b) ≡ true
-both a b p q = ap₂ (λ x y. x && y) p q
-
 module _ (D : Development) (es : List Entry) (E : Development) where
   carried_at : (k : ℕ) → proof_at (carried D es E) k ≡ option_and_then (λ c. carried_proof D es E (statement_text E c)) (slice_get (conditions E) k)
   carried_at k =
@@ -152,14 +145,14 @@ module _ (D : Development) (es : List Entry) (E : Development) where
       let here : Some h.new ≡ Some c = sym h.new_stands ∙ at in
       let new : h.new ≡ c = cc in
       let says : statement_text D h.old ≡ statement_text E c = h.same ∙ ap (statement_text E) new in
-      both (can_carry (column_between D E) (proof_at es (0 + i))) (is (statement_text E c) (statement_text D h.old))
+      and_from (can_carry (column_between D E) (proof_at es (0 + i))) (is (statement_text E c) (statement_text D h.old))
       (ap (λ n. can_carry (column_between D E) (proof_at es n)) (zero-add i) ∙ can (column_between D E) (proof_at es i) q h.proved h.covered)
-      (ap (is (statement_text E c)) says ∙ same_text (statement_text E c))
+      (ap (is (statement_text E c)) says ∙ same_refl (statement_text E c))
 
   -- the first that is noted is the least from which a proof can be carried
   is_from : (k j : ℕ) (c : Condition) → slice_get (conditions E) k ≡ Some c → IsFirst D es (column_between D E) (statement_text E c) 0 j (conditions D) → (p : Proof) × IsCarriedFrom D es E k j p × IsLeast D es E k j
   is_from k j c at r =
-      let parts = both_true (can_carry (column_between D E) (proof_at es j)) (is (statement_text E c) (statement_text D r.condition)) r.noted in
+      let parts = and_parts (can_carry (column_between D E) (proof_at es j)) (is (statement_text E c) (statement_text D r.condition)) r.noted in
       let (p, proved, covers) = carriable (column_between D E) (proof_at es j) parts.0 in
       let place : r.place ≡ j = sym (zero-add r.place) ∙ r.number in (
         p,

@@ -6,13 +6,13 @@ use Rattle.lc_carry.proofs.Keys.{piece_at}
 use Rattle.lc_carry.specs.Carried.{column_between}
 use Rattle.lc_carry.specs.CarriedDerives.{AreApart, CarriedDerives}
 use Rattle.lc_kernel.specs.Derivation.{DerivesGoal}
-use Rattle.lc_naming.specs.ColumnNames.{column_names}
+use Rattle.lc_outline.specs.ColumnNames.{column_names}
 use Rattle.lc_outline.specs.Development.{Development}
 use Rattle.lc_reading.proofs.Places.{place_below}
 use Rattle.lc_reading.specs.Listed.{place_of}
-use Rattle.lc_rename.proofs.Extended.{renamed-derives}
-use Rattle.lc_rename.specs.RenamedDerivations.{IsOneToOne}
-use Rattle.lc_rename.specs.RenamedProofs.{renamed}
+use Rattle.lc_carry.proofs.Extended.{renamed-derives}
+use Rattle.lc_carry.specs.RenamedDerivations.{IsOneToOne}
+use Rattle.lc_carry.specs.RenamedProofs.{renamed}
 
 module _ (D E : Development) where
   -- a column and the one of its name

@@ -8,18 +8,18 @@ use Rattle.lc_cond.specs.Conditions.{Condition, conditions}
 use Rattle.lc_cond_text.specs.ConditionText.{statement_text}
 use Rattle.lc_kernel.specs.Proofs.{Proof, size}
 use Rattle.lc_outline.specs.Development.{Development}
-use Rattle.lc_rename.proofs.Branches.{same_size}
-use Rattle.lc_rename.specs.RenamedProofs.{renamed}
+use Rattle.lc_carry.proofs.Branches.{same_size}
+use Rattle.lc_carry.specs.RenamedProofs.{renamed}
 use Rattle.lc_term.proofs.Stores.{Every-append}
 
-few_first : (e : Entry) (es : List Entry) (k : ℕ) (p : Proof) → size e.proof ≤ file_limit → (proof_at es k ≡ Some p → size p ≤ file_limit) → (b : Bool) → cond b (Some e.proof) (proof_at es k) ≡ Some p → size p ≤ file_limit
+pub few_first : (e : Entry) (es : List Entry) (k : ℕ) (p : Proof) → size e.proof ≤ file_limit → (proof_at es k ≡ Some p → size p ≤ file_limit) → (b : Bool) → cond b (Some e.proof) (proof_at es k) ≡ Some p → size p ≤ file_limit
 few_first e es k p h later true at =
     let found : Some e.proof ≡ Some p = at in
     let proof : e.proof ≡ p = cc in
     subst (λ q. size q ≤ file_limit) proof h
 few_first e es k p h later false at = later at
 
-few_at : (es : List Entry) (k : ℕ) (p : Proof) → HaveFewSteps es → proof_at es k ≡ Some p → size p ≤ file_limit
+pub few_at : (es : List Entry) (k : ℕ) (p : Proof) → HaveFewSteps es → proof_at es k ≡ Some p → size p ≤ file_limit
 few_at [] k p h at = absurd (let none : None ≡ Some p = at in cc)
 few_at (e ∷ es) k p h at = few_first e es k p h.0 (few_at es k p h.1) (e.number == k) at
 

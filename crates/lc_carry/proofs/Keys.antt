@@ -1,6 +1,6 @@
 -- Texts that are kept by their pieces: a key is that of one text.
 use Rattle.std.proofs.Common.{◌≡◌, ℕ, suc, ◌+◌, ◌<◌, Bool, true, false, cond, not, ◌||◌, nat_lt, List, [], ◌∷◌, ◌++◌, length, get_or, take, drop, map, Option, Some, None, inl, inr, refl, sym, ap, ap₂, ◌∙◌, subst, append_assoc, append-nil, arith}
-use Rattle.std.proofs.lemmas.Bool.{and_from, eq-eqb, cases_lt, lt-ltb, le-ltb}
+use Rattle.std.proofs.lemmas.Bool.{cases_lt, lt-ltb, le-ltb}
 use Rattle.std.proofs.lemmas.List.{map-append, take_more, drop_more, take-append-drop}
 use Rattle.std.specs.Borrow.{Bor}
 use Rattle.std.specs.List.{flat_map, list_any, position_or_len}
@@ -11,17 +11,8 @@ use Rattle.lc_reading.proofs.Words.{is-true}
 use Rattle.lc_reading.specs.Listed.{place_of}
 use Rattle.lc_reading.specs.Words.{is}
 use Rattle.lc_carry.specs.Pieces.{depth_behind, begins, pieces_behind, pieces, kept_in, KeepsPieces, key_of, joined}
-
--- ---- tests of texts
-
-pub same_text : (w : List ℕ) → is w w ≡ true
-same_text [] = refl
-same_text (b ∷ w) = and_from _ _ (eq-eqb b b refl) (same_text w)
-
-pub same_tests : (a b : Bool) → (a ≡ true → b ≡ true) → (b ≡ true → a ≡ true) → a ≡ b
-same_tests true b there back = sym (there refl)
-same_tests false true there back = back refl
-same_tests false false there back = refl
+use Rattle.lc_text.proofs.Printed.{same_refl}
+use Rattle.lc_reading.proofs.Places.{placed_before}
 
 -- ---- pieces
 
@@ -50,16 +41,6 @@ pub piece_at : (kept : List (List ℕ)) (w : List ℕ) (k : ℕ) → place_of ke
 piece_at [] w k h = absurd (let none : None ≡ Some k = h in cc)
 piece_at (v ∷ vs) w k h = at_place v w vs k (is w v) (place_of vs w) (is-true w v) (piece_at vs w) h
 
-later_place : (here : Bool) (o now : Option ℕ) (k : ℕ) → ((j : ℕ) → o ≡ Some j → now ≡ Some j) → cond here (Some 0) (option_map suc o) ≡ Some k → cond here (Some 0) (option_map suc now) ≡ Some k
-later_place true o now k later h = h
-later_place false None now k later h = absurd (let none : None ≡ Some k = h in cc)
-later_place false (Some j) now k later h = ap (option_map suc) (later j refl) ∙ h
-
--- and keeps it
-place-kept : (kept more : List (List ℕ)) (w : List ℕ) (k : ℕ) → place_of kept w ≡ Some k → place_of (kept ++ more) w ≡ Some k
-place-kept [] more w k h = absurd (let none : None ≡ Some k = h in cc)
-place-kept (v ∷ vs) more w k h = later_place (is w v) (place_of vs w) (place_of (vs ++ more) w) k (place-kept vs more w) h
-
 -- ---- keys
 
 first_of : (o : Option ℕ) (os : Option (List ℕ)) (key : List ℕ) → option_and_then (λ (k : ℕ). option_map (λ (ks : List ℕ). k ∷ ks) os) o ≡ Some key
@@ -78,7 +59,7 @@ key-kept : (kept more ws : List (List ℕ)) (key : List ℕ) → key_of kept ws 
 key-kept kept more [] key h = h
 key-kept kept more (w ∷ ws) key h =
     let (k, ks, here, later, is_key) = first_of (place_of kept w) (key_of kept ws) key h in
-    ap₂ (λ o os. option_and_then (λ (j : ℕ). option_map (λ (js : List ℕ). j ∷ js) os) o) (place-kept kept more w k here) (key-kept kept more ws ks later) ∙ ap Some is_key
+    ap₂ (λ o os. option_and_then (λ (j : ℕ). option_map (λ (js : List ℕ). j ∷ js) os) o) (placed_before kept more w k here) (key-kept kept more ws ks later) ∙ ap Some is_key
 
 -- the text of a key is that from which it was made
 pub text_of_key : (kept : List (List ℕ)) (t key : List ℕ) → key_of kept (pieces t) ≡ Some key → joined kept key ≡ t
@@ -141,7 +122,7 @@ kept_by true u us ks = refl
 kept_by false u us ks = refl
 
 pub place_in_inserted : (ks : List (Vec ℕ Global)) (v : Vec ℕ Global) → place_of (kept_in (insert_key (λ (x y : Vec ℕ Global). is x.items y.items) ks v)) v.items ≡ Some (position_or_len (λ (u : Vec ℕ Global). is v.items u.items) ks)
-place_in_inserted [] v = ap (λ b. cond b (Some 0) None) (same_text v.items)
+place_in_inserted [] v = ap (λ b. cond b (Some 0) None) (same_refl v.items)
 place_in_inserted (u ∷ us) v =
     let same = λ (x : Vec ℕ Global). is v.items x.items in
     ap (λ l. place_of l v.items) (kept_by (same u || list_any same us) u us (us ++ v ∷ []))

@@ -4,24 +4,26 @@ use Rattle.std.specs.Map.{lookup}
 use Rattle.std.specs.Option.{option_or}
 use Rattle.std.specs.Prelude.{Result, Ok, Err, OnOk, OnErr, Vec}
 use Rattle.std.specs.declared.alloc.Global.{Global}
-use Rattle.lc_reading.proofs.Places.{lookup_last}
+use Rattle.lc_lemmas.proofs.Lists.{lookup_last}
+use Rattle.lc_lemmas.proofs.Booleans.{same_tests}
 use Rattle.lc_reading.proofs.Words.{is-true}
 use Rattle.lc_reading.specs.Words.{is}
 use Rattle.lc_carry.proofs.Least.{or_none}
-use Rattle.lc_carry.proofs.Keys.{same_text, same_tests, text_of_key, key_later}
+use Rattle.lc_carry.proofs.Keys.{text_of_key, key_later}
 use Rattle.lc_carry.specs.Pieces.{pieces, key_of, joined, KeepsPieces}
 use Rattle.lc_carry.specs.TextNumbers.{number_of, listed, AreKeys, noted}
+use Rattle.lc_text.proofs.Printed.{same_refl}
 
 -- two keys are the same if their texts are
 same_key : (kept : List (List ℕ)) (t key other : List ℕ) → key_of kept (pieces t) ≡ Some key → key_of kept (pieces (joined kept other)) ≡ Some other → is key other ≡ is t (joined kept other)
 same_key kept t key other here there =
     same_tests (is key other) (is t (joined kept other))
-    (λ e. ap (λ l. is t (joined kept l)) (sym (is-true key other e)) ∙ ap (is t) (text_of_key kept t key here) ∙ same_text t)
+    (λ e. ap (λ l. is t (joined kept l)) (sym (is-true key other e)) ∙ ap (is t) (text_of_key kept t key here) ∙ same_refl t)
     (λ e.
     let same : t ≡ joined kept other = is-true t (joined kept other) e in
     let found : Some key ≡ Some other = sym here ∙ ap (λ l. key_of kept (pieces l)) same ∙ there in
     let one : key ≡ other = cc in
-    ap (is key) (sym one) ∙ same_text key)
+    ap (is key) (sym one) ∙ same_refl key)
 
 -- a text with a piece that is not kept is that of no key
 other_text : (kept : List (List ℕ)) (t other : List ℕ) (b : Bool) → key_of kept (pieces t) ≡ None → key_of kept (pieces (joined kept other)) ≡ Some other → is t (joined kept other) ≡ b → b ≡ false

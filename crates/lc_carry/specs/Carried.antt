@@ -4,11 +4,11 @@ use Rattle.lc_cert.specs.Certificates.{Entry, proof_at}
 use Rattle.lc_cond.specs.Conditions.{Condition, conditions}
 use Rattle.lc_cond_text.specs.ConditionText.{statement_text}
 use Rattle.lc_kernel.specs.Proofs.{Proof}
-use Rattle.lc_naming.specs.ColumnNames.{column_names}
+use Rattle.lc_outline.specs.ColumnNames.{column_names}
 use Rattle.lc_outline.specs.Development.{Development}
 use Rattle.lc_reading.specs.Listed.{place_of}
 use Rattle.lc_reading.specs.Words.{is}
-use Rattle.lc_rename.specs.RenamedProofs.{is_covered, renamed}
+use Rattle.lc_carry.specs.RenamedProofs.{is_covered, renamed}
 
 -- the column of E that has the name of column k of D, if there is one
 abbrev pub column_between : Development → Development → ℕ → Option ℕ

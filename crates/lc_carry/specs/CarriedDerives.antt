@@ -6,10 +6,10 @@ use Rattle.lc_cert.specs.Certificates.{Entry}
 use Rattle.lc_cond.specs.Conditions.{Condition}
 use Rattle.lc_kernel.specs.Derivation.{DerivesGoal}
 use Rattle.lc_kernel.specs.Proofs.{Proof}
-use Rattle.lc_naming.specs.ColumnNames.{column_names}
+use Rattle.lc_outline.specs.ColumnNames.{column_names}
 use Rattle.lc_outline.specs.Development.{Development}
-use Rattle.lc_rename.specs.RenamedDerivations.{AreRenamed, IsRenamed}
-use Rattle.lc_rename.specs.RenamedProofs.{renamed}
+use Rattle.lc_carry.specs.RenamedDerivations.{AreRenamed, IsRenamed}
+use Rattle.lc_carry.specs.RenamedProofs.{renamed}
 
 -- no two of these names are the same
 abbrev pub AreApart : List (List ℕ) → Type 0

@@ -6,7 +6,7 @@ use Rattle.lc_cond.specs.Conditions.{Condition, conditions}
 use Rattle.lc_cond_text.specs.ConditionText.{statement_text}
 use Rattle.lc_kernel.specs.Proofs.{Proof}
 use Rattle.lc_outline.specs.Development.{Development}
-use Rattle.lc_rename.specs.RenamedProofs.{is_covered, renamed}
+use Rattle.lc_carry.specs.RenamedProofs.{is_covered, renamed}
 
 -- condition j of D says what condition k of E says, and this is its proof, which names only columns that E has
 pub record IsCarriedFrom (D : Development) (es : List Entry) (E : Development) (k j : ℕ) (p : Proof) : Type 0 where

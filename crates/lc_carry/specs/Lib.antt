@@ -4,3 +4,6 @@ pub mod CarriedDerives
 pub mod OldProofs
 pub mod Pieces
 pub mod TextNumbers
+pub mod Renaming
+pub mod RenamedProofs
+pub mod RenamedDerivations

@@ -5,7 +5,7 @@ use Rattle.lc_carry.specs.Carried.{renamed_at}
 use Rattle.lc_carry.specs.TextNumbers.{number_of}
 use Rattle.lc_carry.specs.declared.old_proofs.OldProofs.{OldProofs}
 use Rattle.lc_kernel.specs.Proofs.{Proof}
-use Rattle.lc_rename.specs.Renaming.{column_for}
+use Rattle.lc_carry.specs.Renaming.{column_for}
 
 -- the one that is carried to a condition that says this
 abbrev pub proof_for : OldProofs → List ℕ → Option Proof

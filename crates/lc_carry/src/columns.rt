@@ -4,12 +4,11 @@ ghost use Rattle.lc_carry.specs.Carried.{column_between};
 ghost use Rattle.lc_outline.specs.DevelopmentView.{development_view};
 ghost use Rattle.lc_reading.specs.Listed.{place_of};
 ghost use Rattle.lc_reading.specs.TableView.{listed};
-ghost use Rattle.lc_rename.specs.Renaming.{column_for};
+ghost use Rattle.lc_carry.specs.Renaming.{column_for};
 
 use lc_base::{ColId, OutOfMemory};
 use lc_cert::table_of;
-use lc_naming::column_names;
-use lc_outline::Development;
+use lc_outline::{Development, column_names};
 use lc_reading::NameTable;
 use std::alloc::Global;
 

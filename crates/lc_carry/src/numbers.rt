@@ -10,15 +10,15 @@ ghost use Rattle.lc_cond.specs.ConditionView.{condition_in, IsCondition, AreCond
 ghost use Rattle.lc_cond_text.specs.ConditionText.{spelled};
 ghost use Rattle.lc_cond_text.specs.Recalled.{Recalls};
 ghost use Rattle.lc_outline.specs.DevelopmentView.{development_view};
-ghost use Rattle.lc_rename.specs.Renaming.{column_for};
+ghost use Rattle.lc_carry.specs.Renaming.{column_for};
 
+use crate::proof::is_covered;
 use crate::text_numbers::TextNumbers;
 use lc_base::{ColId, OutOfMemory};
 use lc_cert::Certificate;
 use lc_cond::{Condition, ConditionStream};
 use lc_cond_text::{FormulaTexts, no_texts, push_statement};
 use lc_outline::Development;
-use lc_rename::is_covered;
 use lc_table::Terms;
 use std::alloc::Global;
 

@@ -1,12 +1,12 @@
 //! Proofs of the old development, by what conditions say.
 use crate::columns::columns_between;
 use crate::numbers::{Old, numbers_of};
+use crate::proof::renamed;
 use crate::text_numbers::TextNumbers;
 use lc_base::{ColId, OutOfMemory};
 use lc_cert::Certificate;
 use lc_kernel::Proof;
 use lc_outline::Development;
-use lc_rename::renamed;
 use std::alloc::Global;
 
 /// The proofs of an old development that can be carried to a new one.

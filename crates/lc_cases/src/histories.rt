@@ -1,7 +1,8 @@
 //! Cases of specifications and of histories.
 use anyhow::Context;
 use lc_base::{Fault, Refusal};
-use lc_hist::{JudgeFault, history_from_json, history_to_json, judge};
+use lc_hist::{history_from_json, history_to_json};
+use lc_history::{JudgeFault, judge};
 use lc_spec_text::spec_of;
 use std::alloc::Global;
 use std::{io, str};

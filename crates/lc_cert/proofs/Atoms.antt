@@ -26,16 +26,10 @@ use Rattle.lc_text.specs.Terms.{fit_reading, numbered_reading, word_reading, num
 use Rattle.lc_text.specs.declared.scope.ColumnUse.{ColumnUse}
 use Rattle.lc_text.specs.declared.scope.ColumnUse.TheVariants.{Usable, Misplaced, Hidden, Undeclared}
 use Rattle.lc_text.specs.declared.scope.Extra.TheVariants.{NumberedVariables}
+use Rattle.lc_sexp.proofs.Text.{begins_letter, continues_letter}
+use Rattle.lc_sexp.proofs.Atoms.{atom_letters}
 
 -- ---- words
-
-begins_letter : (b : ℕ) → begins_name b ≡ true → is_Letter (class_of b) ≡ true
-unfolding begins_name class_of
-begins_letter b h = grind (arith, nat_tests)
-
-continues_letter : (b : ℕ) → continues_name b ≡ true → is_Letter (class_of b) ≡ true
-unfolding continues_name class_of
-continues_letter b h = grind (arith, nat_tests)
 
 digit_letter : (b : ℕ) → (nat_le 48 b && nat_le b 57) ≡ true → is_Letter (class_of b) ≡ true
 unfolding class_of
@@ -62,10 +56,6 @@ taken false x y e = absurd (cc)
 natural_atom : (w : List ℕ) (n : ℕ) → natural_of w ≡ Some n → is_atom w ≡ true
 natural_atom [] n e = absurd (cc)
 natural_atom (b ∷ w) n e = digits_letters (b ∷ w) (and_parts (are_digits (b ∷ w)) _ (taken _ _ n e)).0
-
-atom_letters : (w : List ℕ) → is_atom w ≡ true → are_letters w ≡ true
-atom_letters [] h = refl
-atom_letters (b ∷ w) h = h
 
 minus_letter : (b : ℕ) → (b == 45) ≡ true → is_Letter (class_of b) ≡ true
 unfolding class_of

@@ -1,6 +1,6 @@
 -- What is printed of a certificate reads back.
 use Rattle.std.proofs.Common.{◌≡◌, ℕ, ◌+◌, ◌<◌, ◌^◌, true, List, [], ◌∷◌, Option, Some, None, refl, ap, ap₂, ◌∙◌, pos, arith}
-use Rattle.std.proofs.lemmas.Bool.{and_parts, and_from, eq-eqb, lt-ltb, cond-true}
+use Rattle.std.proofs.lemmas.Bool.{and_parts, lt-ltb, cond-true}
 use Rattle.std.specs.Fmt.{decimal}
 use Rattle.lc_base.specs.NameText.{is_name}
 use Rattle.lc_sexp.specs.Parts.{fits_i64}
@@ -22,11 +22,12 @@ use Rattle.lc_outline.specs.Development.{Development}
 use Rattle.lc_cert.proofs.Atoms.{name_atom, number_atom}
 use Rattle.lc_cert.proofs.ProofAtoms.{proof_atoms}
 use Rattle.lc_cert.specs.Certificates.{Entry, is_above, is_rising}
-use Rattle.lc_naming.specs.ColumnNames.{column_names}
+use Rattle.lc_outline.specs.ColumnNames.{column_names}
 use Rattle.lc_cert.specs.ColumnNames.{names_with, spelled_with}
 use Rattle.lc_cert.specs.Files.{Certifies}
 use Rattle.lc_cert.specs.Printed.{entry_tree, entry_trees, certificate_tree, certificate_line, EntryReadsBack, IsPrintable}
 use Rattle.lc_cert.specs.Readings.{rising_reading, place_reading, entry, entry_reading, last_behind, entries_reading, certificate_reading}
+use Rattle.lc_text.proofs.Printed.{same_refl}
 
 fits_number : (k : ℕ) → k < 2 ^ 63 → fits_i64 (pos k) ≡ true
 fits_number k h = lt-ltb k 9223372036854775808 h
@@ -55,12 +56,8 @@ entries_back D last m (e ∷ es) h r =
     one_before names last (m + item_count (entry_tree by e)) (entry_trees by es) e es (entry_reading names last m (entry_tree by e))
     (entry_back names by last m e p.0 r.0.0 r.0.1) (entries_back D (Some e.number) (m + item_count (entry_tree by e)) es p.1 r.1)
 
-same_word : (w : List ℕ) → is w w ≡ true
-same_word [] = refl
-same_word (b ∷ w) = and_from _ _ (eq-eqb b b refl) (same_word w)
-
 file_back : (D : Development) (es : List Entry) → is_rising None es ≡ true → Every (EntryReadsBack D) es → certificate_reading D (certificate_tree D es ▸ none) ≡ fine es
-file_back D es h r = ap₂ (both (λ (u : Unit {0}) (es : List Entry). es)) (cond-true (is D.object.name D.object.name) (fine tt) (wrong Shape 2) (same_word D.object.name)) (entries_back D None _ es h r)
+file_back D es h r = ap₂ (both (λ (u : Unit {0}) (es : List Entry). es)) (cond-true (is D.object.name D.object.name) (fine tt) (wrong Shape 2) (same_refl D.object.name)) (entries_back D None _ es h r)
 
 entries_atoms : (D : Development) (es : List Entry) → Every (EntryReadsBack D) es → HaveAtoms (entry_trees (spelled_with (column_names D)) es)
 unfolding class_of

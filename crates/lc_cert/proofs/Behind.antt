@@ -18,7 +18,7 @@ use Rattle.lc_proof_text.specs.Files.{only}
 use Rattle.lc_outline.specs.Development.{Development}
 use Rattle.lc_cert.specs.Answers.{last_told}
 use Rattle.lc_cert.specs.Certificates as S
-use Rattle.lc_naming.specs.ColumnNames.{column_names}
+use Rattle.lc_outline.specs.ColumnNames.{column_names}
 use Rattle.lc_cert.specs.ColumnNames.{names_with}
 use Rattle.lc_cert.specs.EntryView.{entry_of, entries_of}
 use Rattle.lc_cert.specs.Readings.{entry_reading, last_behind, entries_reading, name_due, named_reading, form_reading, certificate_reading}

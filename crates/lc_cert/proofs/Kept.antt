@@ -21,7 +21,7 @@ use Rattle.lc_cert.proofs.Back.{certificate_back}
 use Rattle.lc_cert.proofs.Rising.{certificate_rises}
 use Rattle.lc_cert.proofs.Spelled.{names_spelled}
 use Rattle.lc_cert.specs.Certificates.{Entry, is_above}
-use Rattle.lc_naming.specs.ColumnNames.{column_names}
+use Rattle.lc_outline.specs.ColumnNames.{column_names}
 use Rattle.lc_cert.specs.ColumnNames.{names_with, spelled_with}
 use Rattle.lc_cert.specs.Files.{Certifies}
 use Rattle.lc_cert.specs.Printed.{certificate_line, EntryReadsBack, IsPrintable}

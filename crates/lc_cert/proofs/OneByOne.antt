@@ -12,7 +12,7 @@ use Rattle.lc_reading.specs.declared.pass.Pass.TheVariants.{Shape}
 use Rattle.lc_text.specs.Names.{Names}
 use Rattle.lc_outline.specs.Development.{Development}
 use Rattle.lc_cert.specs.Certificates.{Entry}
-use Rattle.lc_naming.specs.ColumnNames.{column_names}
+use Rattle.lc_outline.specs.ColumnNames.{column_names}
 use Rattle.lc_cert.specs.ColumnNames.{names_with}
 use Rattle.lc_cert.specs.OneByOne.{number_before, piece_at, AreReadAlone, ReadAloneIsReadWhole}
 use Rattle.lc_cert.specs.Readings.{entry_reading, entries_reading, last_behind, named_reading, certificate_reading}

@@ -23,7 +23,7 @@ use Rattle.lc_cert.proofs.Refusals.{text_refused, trees_refused, not_read_and_re
 use Rattle.lc_cert.specs.Answers.{text_told, trees_told}
 use Rattle.lc_cert.specs.CertificateView.{entries_in}
 use Rattle.lc_cert.specs.Certificates.{Entry, HaveFewSteps}
-use Rattle.lc_naming.specs.ColumnNames.{column_names}
+use Rattle.lc_outline.specs.ColumnNames.{column_names}
 use Rattle.lc_cert.specs.Files.{Certifies, IsAnswerTo}
 use Rattle.lc_cert.specs.Pieces.{read_so_far, due_reading, waiting_in, in_first, waiting, IsForm, IsUnderWay, IsAfterTaking, IsAnswerOf, AreSame}
 use Rattle.lc_cert.specs.Readings.{form_reading, file_reading, certificate_reading}

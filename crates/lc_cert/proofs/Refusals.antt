@@ -20,6 +20,7 @@ use Rattle.lc_cert.specs.Answers.{text_told, trees_told}
 use Rattle.lc_cert.specs.Certificates.{Entry}
 use Rattle.lc_cert.specs.Files.{Certifies, IsFirstRefusal, IsAnswerTo}
 use Rattle.lc_cert.specs.Readings.{certificate_reading}
+use Rattle.lc_reading.proofs.Files.{fine_not_flawed, same_flaw}
 
 -- a fault of the text
 pub text_refused : (D : Development) (bytes : List ℕ) (fault : Fault) → IsTextFault fault (IsFirstFault bytes) → IsAnswerTo D bytes (Err (text_told fault))
@@ -45,16 +46,10 @@ of_text D bytes (inr (offset, fault)) = inr (CertText offset, inl (offset, refl,
 pub read_or_refused : (D : Development) (bytes : List ℕ) → ((es : List Entry) × Certifies D bytes es) ⊎ ((refusal : Refusal) × IsFirstRefusal D bytes refusal)
 read_or_refused D bytes = of_text D bytes (reading_or_fault_lem bytes)
 
-fine_not_flawed : {X : Type 0} (x : X) (f : Flaw) → fine x ≡ flawed f → ⊥
-fine_not_flawed x f e = cc
-
 pub not_read_and_refused : (D : Development) (bytes : List ℕ) (es : List Entry) (refusal : Refusal) → Certifies D bytes es → IsFirstRefusal D bytes refusal → ⊥
 not_read_and_refused D bytes es refusal (ts, reads, says) (inl (offset, e, fault)) = no_fault_lem bytes ts offset reads fault
 not_read_and_refused D bytes es refusal (ts, reads, says) (inr (us, f, other, refused, e)) =
     fine_not_flawed es f (sym says ∙ ap (certificate_reading D) (one_reading_lem bytes ts us reads other) ∙ refused)
-
-same_flaw : {X : Type 0} (f g : Flaw) (r : Reading X) → r ≡ flawed f → r ≡ flawed g → f ≡ g
-same_flaw f g r h k = let e : flawed f ≡ flawed g = sym h ∙ k in cc
 
 pub refused_once : (D : Development) (bytes : List ℕ) (r s : Refusal) → IsFirstRefusal D bytes r → IsFirstRefusal D bytes s → r ≡ s
 refused_once D bytes r s (inl (o, e, fault)) (inl (p, e', other)) = e ∙ ap CertText (sym (one_fault_lem bytes o p fault other)) ∙ sym e'

@@ -14,7 +14,7 @@ use Rattle.lc_proof_text.specs.Files.{only}
 use Rattle.lc_proof_text.specs.Proofs.{proof_reading}
 use Rattle.lc_outline.specs.Development.{Development}
 use Rattle.lc_cert.specs.Certificates.{Entry, HaveFewSteps}
-use Rattle.lc_naming.specs.ColumnNames.{column_names}
+use Rattle.lc_outline.specs.ColumnNames.{column_names}
 use Rattle.lc_cert.specs.ColumnNames.{names_with}
 use Rattle.lc_cert.specs.Files.{Certifies}
 use Rattle.lc_cert.specs.Readings.{place_reading, entry, parts_reading, entry_reading, last_behind, entries_reading, name_due, named_reading, form_reading, certificate_reading}

@@ -10,7 +10,7 @@ use Rattle.lc_proof_text.specs.ProofTrees.{proof_tree}
 use Rattle.lc_proof_text.specs.SpelledProofs.{spelled_proof}
 use Rattle.lc_outline.specs.Development.{Development}
 use Rattle.lc_cert.specs.Certificates.{Entry}
-use Rattle.lc_naming.specs.ColumnNames.{column_names}
+use Rattle.lc_outline.specs.ColumnNames.{column_names}
 use Rattle.lc_cert.specs.ColumnNames.{spelled_with}
 use Rattle.lc_cert.specs.Printed.{entry_tree, entry_trees, certificate_line}
 use Rattle.lc_cert.specs.Readings.{entry}

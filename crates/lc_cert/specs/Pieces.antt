@@ -18,7 +18,7 @@ use Rattle.lc_reading.specs.declared.pass.Pass.TheVariants.{Shape}
 use Rattle.lc_outline.specs.Development.{Development}
 use Rattle.lc_cert.specs.CertificateView.{entries_in}
 use Rattle.lc_cert.specs.Certificates.{Entry, HaveFewSteps}
-use Rattle.lc_naming.specs.ColumnNames.{column_names}
+use Rattle.lc_outline.specs.ColumnNames.{column_names}
 use Rattle.lc_cert.specs.ColumnNames.{names_with}
 use Rattle.lc_cert.specs.EntryView.{entries_of}
 use Rattle.lc_cert.specs.Files.{Certifies, IsFirstRefusal}

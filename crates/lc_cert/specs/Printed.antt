@@ -9,7 +9,7 @@ use Rattle.lc_text.specs.Spelling.{Spelled}
 use Rattle.lc_proof_text.specs.ProofTrees.{proof_tree, ProofReadsBack}
 use Rattle.lc_outline.specs.Development.{Development}
 use Rattle.lc_cert.specs.Certificates.{Entry}
-use Rattle.lc_naming.specs.ColumnNames.{column_names}
+use Rattle.lc_outline.specs.ColumnNames.{column_names}
 use Rattle.lc_cert.specs.ColumnNames.{names_with, spelled_with}
 
 abbrev pub entry_tree : Spelled → Entry → Tree

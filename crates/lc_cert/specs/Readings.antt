@@ -11,7 +11,7 @@ use Rattle.lc_proof_text.specs.Files.{only}
 use Rattle.lc_proof_text.specs.Proofs.{proof_reading}
 use Rattle.lc_outline.specs.Development.{Development}
 use Rattle.lc_cert.specs.Certificates.{Entry, is_above}
-use Rattle.lc_naming.specs.ColumnNames.{column_names}
+use Rattle.lc_outline.specs.ColumnNames.{column_names}
 use Rattle.lc_cert.specs.ColumnNames.{names_with}
 
 -- the NUMBER at the item n, from 0 on and above the last one

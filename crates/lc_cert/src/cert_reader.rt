@@ -4,8 +4,7 @@ use crate::form_reader::FormReader;
 use crate::naming::table_of;
 use crate::reading::{text_told, trees_told};
 use lc_base::{Fault, OutOfMemory};
-use lc_naming::column_names;
-use lc_outline::Development;
+use lc_outline::{Development, column_names};
 use lc_reading::NameTable;
 use lc_sexp::{Part, Reader};
 use std::alloc::Global;
@@ -32,7 +31,7 @@ impl CertReader {
     ghost use Rattle.lc_outline.specs.DevelopmentView.{development_view};
     ghost use Rattle.lc_cert.specs.Certificates.{Entry as Proved};
     ghost use Rattle.lc_cert.specs.EntryView.{entry_of};
-    ghost use Rattle.lc_naming.specs.ColumnNames.{column_names};
+    ghost use Rattle.lc_outline.specs.ColumnNames.{column_names};
     ghost use Rattle.lc_cert.specs.Pieces.{IsForm, IsUnderWay, IsAfterTaking, IsAnswerOf, waiting, is_spent};
 
     /// A reader of a certificate of this development, which has been fed nothing.

@@ -11,8 +11,7 @@ use crate::entry::Entry;
 use crate::naming::table_of;
 use crate::reading::read_entry;
 use lc_base::OutOfMemory;
-use lc_naming::column_names;
-use lc_outline::Parts;
+use lc_outline::{Parts, column_names};
 use lc_reading::{NameTable, Part, ReadFault, next_part};
 use lc_sexp::{Sexp, read_piece};
 use std::alloc::Global;
@@ -85,7 +84,7 @@ impl<'a> EntryReader<'a> {
     ghost use Rattle.lc_kernel.specs.Proofs.{size};
     ghost use Rattle.lc_kernel.specs.View.{proof_of};
     ghost use Rattle.lc_outline.specs.PartsView.{parts_view};
-    ghost use Rattle.lc_naming.specs.ColumnNames.{column_names};
+    ghost use Rattle.lc_outline.specs.ColumnNames.{column_names};
     ghost use Rattle.lc_cert.specs.ColumnNames.{names_with};
     ghost use Rattle.lc_cert.specs.OneByOne.{names_known, IsSingleRead};
 

@@ -11,8 +11,7 @@ ghost use Rattle.lc_cert.specs.Printed.{entry_tree, entry_trees, certificate_lin
 use crate::certificate::Certificate;
 use crate::entry::Entry;
 use lc_base::{ColId, OutOfMemory};
-use lc_naming::column_names;
-use lc_outline::Development;
+use lc_outline::{Development, column_names};
 use lc_proof_text::write_proof;
 use lc_text::Spelling;
 use std::alloc::Global;

@@ -21,8 +21,7 @@ use crate::naming::table_of;
 use crate::scope::InCertificate;
 use lc_base::{Fault, Refusal};
 use lc_kernel::Proof;
-use lc_naming::column_names;
-use lc_outline::Development;
+use lc_outline::{Development, column_names};
 use lc_proof_text::read_proof;
 use lc_reading::{
     NameTable, Part, Pass, ReadFault, behind_word, both, ended, next_part, one, pushed, two, wrong,

@@ -16,31 +16,20 @@ use Rattle.lc_sound.specs.Derived.{AreDerived}
 use Rattle.lc_check.proofs.Derived.{all_derived}
 use Rattle.lc_check.specs.Answers.{CountsAll}
 use Rattle.lc_check.specs.UpTo.{IsUpTo}
-use Rattle.lc_check.specs.VerdictView.{development_in, IsVerdictOn, IsVerdict, IsAnswerOn, IsCountOn, IfAccepted}
+use Rattle.lc_check.specs.VerdictView.{development_in, IsVerdictOn, IsVerdict, IsCountOn, IsFinishedOn, IfAccepted}
 use Rattle.lc_check.specs.Verdicts.{IsAccepted}
 use Rattle.lc_check.specs.declared.progress.Progress.{Progress}
-use Rattle.lc_check.specs.declared.verdict.Accepted.{Accepted}
+use Rattle.lc_check.specs.declared.verdict.Finished.{Finished}
 use Rattle.lc_check.specs.declared.verdict.Verdict.{Verdict}
 use Rattle.lc_check.specs.declared.verdict.Verdict.TheVariants.{Accepted as Accepts, Refused as Refuses}
 
 -- ---- a development and a certificate file
 
-pub not_read : (D : Development) (cert : List ℕ) (es : List Entry) (fault : Fault) → IsAnswerOf D cert es (Err fault) → IsAnswerOn D cert (Err fault)
-not_read D cert es (Refused r) h = inl h
-not_read D cert es OutOfMemory h = tt
-
 -- all its proofs were taken
 pub read_all : (D : Development) (cert : List ℕ) (r : CertReader) (p : Progress) (u : Unit {0}) (h : IsUpTo D cert r p) → IsAnswerOf D cert (h.taken ++ waiting r) (Ok u) → Certifies D cert h.taken
 read_all D cert r p u h answer = subst (Certifies D cert) (ap (λ es. h.taken ++ es) h.none ∙ append-nil h.taken) answer
 
-pub not_all_proved : (D : Development) (cert : List ℕ) (es : List Entry) (fault : Fault) → Certifies D cert es → CountsAll es (conditions D) (Err fault) → IsAnswerOn D cert (Err fault)
-not_all_proved D cert es (Refused r) certifies h = inr (es, certifies, h)
-not_all_proved D cert es OutOfMemory certifies h = tt
-
-pub all_proved : (D : Development) (cert : List ℕ) (es : List Entry) (n : ℕ) (a : Accepted) → development_in a ≡ D → Certifies D cert es → CountsAll es (conditions D) (Ok n) → IsAnswerOn D cert (Ok a)
-all_proved D cert es n a is certifies h = (is, (es, certifies, h.1))
-
-pub counted_derived : (D : Development) (es : List Entry) (n : ℕ) → AllUseTheirVariables D → CountsAll es (conditions D) (Ok n) → AreDerived D
+counted_derived : (D : Development) (es : List Entry) (n : ℕ) → AllUseTheirVariables D → CountsAll es (conditions D) (Ok n) → AreDerived D
 counted_derived D es n uses h = all_derived es 0 (conditions D) uses h.1.0
 
 pub not_counted : (D : Development) (cert : List ℕ) (es : List Entry) (fault : Fault) → IsAnswerOf D cert es (Err fault) → IsCountOn D cert (Err fault)
@@ -56,9 +45,9 @@ pub count_derived : (D : Development) (cert : List ℕ) (n : ℕ) → AllUseThei
 count_derived D cert n uses h = counted_derived D h.1.0 n uses (h.0, h.1.2)
 
 -- what is returned for a development that is known otherwise
-pub answered_of : (D E : Development) (cert : List ℕ) (r : CertReader) (p : Progress) (result : Result Accepted Fault) → D ≡ E → IsUpTo E cert r p → ((fed : List ℕ) → IsUpTo D fed r p → IsAnswerOn D fed result)
-    → IsAnswerOn E cert result
-answered_of D E cert r p result e up f = subst (λ d. IsAnswerOn d cert result) e (f cert (subst (λ d. IsUpTo d cert r p) (sym e) up))
+pub finished_of : {F : Type 0} (D E : Development) (cert : List ℕ) (r : CertReader) (p : Progress) (result : Result Finished F) → D ≡ E → IsUpTo E cert r p
+    → ((fed : List ℕ) → IsUpTo D fed r p → IfOk result (IsFinishedOn D fed)) → IfOk result (IsFinishedOn E cert)
+finished_of D E cert r p result e up f = subst (λ d. IfOk result (IsFinishedOn d cert)) e (f cert (subst (λ d. IsUpTo d cert r p) (sym e) up))
 
 -- ---- two files
 

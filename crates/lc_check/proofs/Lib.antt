@@ -2,7 +2,7 @@ pub mod LeastExtra
 pub mod OneVerdict
 pub mod InTurn
 pub mod Walking
-mod Stepping
+pub mod Stepping
 mod Derived
 pub mod Answered
 pub mod AcceptedObjects

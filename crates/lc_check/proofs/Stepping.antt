@@ -106,7 +106,7 @@ missing_last d taken p c cs h due =
     let all = unproved_behind 0 taken [] h.done (c ∷ cs) (Missing p.next) h.proved first in
     inl (subst (λ l. IsFirstUnproved taken 0 l (Missing p.next)) (sym (conditions_done_due d taken p (c ∷ cs) h due)) (subst (λ l. IsFirstUnproved l 0 (h.done ++ c ∷ cs) (Missing p.next)) (append-nil taken) all))
 
-nothing_extra : (n j : ℕ) → IsExtra n [] j → ⊥
+pub nothing_extra : (n j : ℕ) → IsExtra n [] j → ⊥
 nothing_extra n j x = let f : None ≡ Some x.proof = x.stands in cc
 
 pub all_in_turn : (d : Development) (taken : List Entry) (p : Walk) → IsInTurn d taken p → conditions_due d p ≡ [] → CountsAll taken (conditions d) (Ok p.next)

@@ -3,9 +3,9 @@ use Rattle.std.proofs.Common.{◌≡◌, zero, suc, ◌+◌, ◌<◌, ◌≤◌,
 use Rattle.std.proofs.lemmas.List.{drop_more}
 use Rattle.std.specs.Prelude.{Err, Vec}
 use Rattle.std.specs.declared.alloc.Global.{Global}
+use Rattle.lc_lemmas.proofs.Lists.{dropped_all}
 use Rattle.lc_base.specs.declared.refusal.Fault.{Fault}
 use Rattle.lc_base.specs.declared.refusal.Fault.TheVariants.{Refused, OutOfMemory}
-use Rattle.lc_table.proofs.Later.{formula_still, formulas_still, is_formula_still, are_formulas_still}
 use Rattle.lc_term.proofs.Stores.{Every_right}
 use Rattle.lc_term.specs.Lists.{Every}
 use Rattle.lc_table.specs.NodeTables.{Table}
@@ -15,7 +15,7 @@ use Rattle.lc_outline.specs.Development.{Development}
 use Rattle.lc_cert.specs.Certificates.{Entry}
 use Rattle.lc_cond.specs.Conditions as S
 use Rattle.lc_cond.specs.Conditions.{conditions}
-use Rattle.lc_cond.specs.ConditionView.{kind_of, place_of, condition_in, AreConditions}
+use Rattle.lc_cond.specs.ConditionView.{condition_in, AreConditions}
 use Rattle.lc_cond.specs.Stream.{conditions_left}
 use Rattle.lc_cond.specs.Uses.{UsesItsVariables}
 use Rattle.lc_cond.specs.VariableCounts.{HasFewVariables}
@@ -26,20 +26,7 @@ use Rattle.lc_check.specs.Answers.{IsBounded, ProvesOne}
 use Rattle.lc_check.specs.Verdicts.{IsProved}
 use Rattle.lc_check.specs.Walking.{conditions_due, IsKnown, HasNext, IsInTurn, IsAtDue, IsProvenOn}
 use Rattle.lc_check.specs.declared.walk.Walk.{Walk}
-
--- ---- the table grows
-
-pub still_known : (old new : Table) (cs : List Condition) → AreConditions old cs → Keeps old new → AreConditions new cs
-still_known old new [] h kept = tt
-still_known old new (c ∷ cs) h kept = ((are_formulas_still old new c.goal.hypotheses h.0.0 kept, is_formula_still old new c.goal.goal h.0.1 kept), still_known old new cs h.1 kept)
-
-pub conditions_are_kept : (old new : Table) (cs : List Condition) → AreConditions old cs → Keeps old new → map (condition_in new) cs ≡ map (condition_in old) cs
-conditions_are_kept old new [] h kept = refl
-conditions_are_kept old new (c ∷ cs) h kept =
-    let here : condition_in new c ≡ condition_in old c =
-    ap₂ (λ hs g. record { kind = kind_of c.kind; place = place_of c.place; variables = c.goal.vars; hypotheses = hs; goal = g })
-    (formulas_still old new c.goal.hypotheses h.0.0 kept) (formula_still old new c.goal.goal h.0.1 kept) in
-    ap₂ (λ x xs. x ∷ xs) here (conditions_are_kept old new cs h.1 kept)
+use Rattle.lc_cond.proofs.Adding.{are_later, conditions_still}
 
 -- ---- the next condition
 
@@ -52,16 +39,9 @@ all_bounded (c ∷ cs) h g = ((h.0, g.0), all_bounded cs h.1 g.1)
 pub first_left : (cs : List Condition) (i : ℕ) (x : Condition) → i < length cs → x ≡ get_or cs i x → drop i cs ≡ x ∷ drop (i + 1) cs
 first_left cs i x lt is = drop_more cs i x lt ∙ ap (λ y. y ∷ drop (i + 1) cs) (sym is)
 
--- no more of a list is left past its end
-pub drop_past_end : {A : Type 0} (xs : List A) (i : ℕ) → length xs ≤ i → drop i xs ≡ []
-drop_past_end [] zero le = refl
-drop_past_end [] (suc i) le = refl
-drop_past_end (x ∷ xs) zero le = absurd (omega (arith, le))
-drop_past_end (x ∷ xs) (suc i) le = drop_past_end xs i (omega (arith, le))
-
 -- nothing is left of a part, so what is expected comes after it
 pub due_past : (d : Development) (p : Walk) → length p.part.items ≤ p.place → conditions_due d p ≡ conditions_left d p.stream
-due_past d p le = ap (λ l. map (condition_in p.terms) l ++ conditions_left d p.stream) (drop_past_end p.part.items p.place le)
+due_past d p le = ap (λ l. map (condition_in p.terms) l ++ conditions_left d p.stream) (dropped_all p.part.items p.place le)
 
 -- the next part is at hand
 pub due_in_part : (d : Development) (before : Walk) (ts : Table) (cs : List Condition) (stream : ConditionStream) → length before.part.items ≤ before.place
@@ -84,7 +64,7 @@ next_bounded d taken p c cs uses few h due =
 pub still_due : (d : Development) (old new : Walk) (rest : List Condition) → new.stream ≡ old.stream → drop new.place new.part.items ≡ rest → AreConditions old.terms rest → Keeps old.terms new.terms
     → due_behind d old.terms rest old ≡ conditions_due d new
 still_due d old new rest stream is known kept =
-    ap₂ (λ l s. l ++ conditions_left d s) (sym (ap (map (condition_in new.terms)) is ∙ conditions_are_kept old.terms new.terms rest known kept)) (sym stream)
+    ap₂ (λ l s. l ++ conditions_left d s) (sym (ap (map (condition_in new.terms)) is ∙ conditions_still old.terms new.terms rest known kept)) (sym stream)
 
 -- ---- what is done and what is expected
 
@@ -123,7 +103,7 @@ still_at_due d old new stream part place next known kept =
     let same : drop new.place new.part.items ≡ rest = ap₂ (λ i (v : Vec Condition Global). drop i v.items) place part in
     record {
       due = sym (still_due d old new rest stream same known kept);
-      known = λ k. subst (AreConditions new.terms) (sym same) (still_known old.terms new.terms rest k kept);
+      known = λ k. subst (AreConditions new.terms) (sym same) (are_later old.terms new.terms rest k kept);
       next = next;
     }
 

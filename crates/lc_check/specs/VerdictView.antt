@@ -7,6 +7,8 @@ use Rattle.lc_outline.specs.DevelopmentView.{development_view}
 use Rattle.lc_cond.specs.Conditions.{conditions}
 use Rattle.lc_check.specs.Verdicts.{IsProvenBy, IsCertificateRefusal, IsAccepted, IsRefused}
 use Rattle.lc_check.specs.declared.verdict.Accepted.{Accepted}
+use Rattle.lc_check.specs.declared.verdict.Finished.{Finished}
+use Rattle.lc_check.specs.declared.verdict.Finished.TheVariants.{Accepted as Proves, Refused as FailsFor}
 use Rattle.lc_check.specs.declared.verdict.Verdict.{Verdict}
 use Rattle.lc_check.specs.declared.verdict.Verdict.TheVariants.{Accepted as Accepts, Refused as Refuses}
 
@@ -30,11 +32,16 @@ IfAccepted (Ok (Accepts accepted)) P = P (development_in accepted)
 IfAccepted (Ok (Refuses refusal)) P = Unit {0}
 IfAccepted (Err e) P = Unit {0}
 
--- what is accepted of a development and a certificate file; or the reason is reported; nothing on `OutOfMemory`
-abbrev pub IsAnswerOn : Development → List ℕ → Result Accepted Fault → Type 0
-IsAnswerOn D cert (Ok accepted) = (development_in accepted ≡ D) × IsProvenBy D cert
-IsAnswerOn D cert (Err (IsRefusedAs refusal)) = IsCertificateRefusal D cert refusal
-IsAnswerOn D cert (Err OutOfMemory) = Unit {0}
+-- the verdict on a development and a certificate file, with the development
+abbrev pub IsFinishedOn : Development → List ℕ → Finished → Type 0
+IsFinishedOn D cert (Proves accepted) = (development_in accepted ≡ D) × IsProvenBy D cert
+IsFinishedOn D cert (FailsFor refusal development) = (development_view development ≡ D) × IsCertificateRefusal D cert refusal
+
+-- something holds of the development, if one is accepted
+abbrev pub IfFinished : {E : Type 0} → Result Finished E → (Development → Type 0) → Type 0
+IfFinished (Ok (Proves accepted)) P = P (development_in accepted)
+IfFinished (Ok (FailsFor refusal development)) P = Unit {0}
+IfFinished (Err e) P = Unit {0}
 
 -- how many conditions a certificate file proves, if it is accepted; or the reason is reported; nothing on `OutOfMemory`
 abbrev pub IsCountOn : Development → List ℕ → Result ℕ Fault → Type 0

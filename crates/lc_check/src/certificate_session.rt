@@ -1,13 +1,14 @@
 //! A certificate of a development that was read, checked in pieces.
-ghost use Rattle.std.specs.Prelude.{◌++◌, ℕ, List, OnOk};
+ghost use Rattle.std.specs.Prelude.{◌++◌, ℕ, List, Err, IfOk, OnOk};
 ghost use Rattle.lc_outline.specs.DevelopmentView.{development_view};
 ghost use Rattle.lc_sound.specs.Derived.{AreDerived};
 ghost use Rattle.lc_sound.specs.Linearizable.{IsLinearizableObject};
 ghost use Rattle.lc_check.specs.UpTo.{IsUpTo};
+ghost use Rattle.lc_check.specs.VerdictView.{IsCountOn, IsFinishedOn, IfFinished};
 
 use crate::progress::Progress;
 use crate::proving::{Alone, Prover};
-use crate::verdict::{Accepted, Verdict};
+use crate::verdict::{Accepted, Finished, Verdict};
 use lc_base::{Fault, OutOfMemory};
 use lc_cert::CertReader;
 use lc_cond::laws::conditions_use_their_variables;
@@ -93,18 +94,63 @@ pub(crate) fn feed_all<P: Prover>(
     }
 }
 
+/// How many conditions a development has, if the certificate file, which ends here, proves each of them and nothing else; else its
+/// refusal.
+pub(crate) fn counted<P: Prover>(
+    alloc: Global,
+    development: &Development,
+    prover: &mut P,
+    reader: CertReader,
+    progress: &mut Progress,
+) -> Result<u64, Fault>
+    requires { (cert : List ℕ) × IsUpTo (development_view development.now) cert reader progress.old }
+    ensures { (cert : List ℕ) → IsUpTo (development_view development.now) cert reader progress.old → IsCountOn (development_view development.now) cert result }
+{
+    if let Err(fault) = reader.finish(development) {
+        return Err(fault);
+    }
+    progress.answer(alloc, development, prover)
+}
+
+// What a session comes to that is refused for this reason.
+fn declined(development: Development, fault: Fault) -> Result<Finished, OutOfMemory>
+    ensures exactly { (cert : List ℕ) → IsCountOn (development_view development) cert (Err fault) → IfOk result (IsFinishedOn (development_view development) cert) }
+    ensures linearizable { IfFinished result (λ D. IsLinearizableObject D.specification D.object) }
+{
+    match fault {
+        Fault::Refused(refusal) => Ok(Finished::Refused(refusal, development)),
+        Fault::OutOfMemory => Err(OutOfMemory),
+    }
+}
+
+/// What a session of a development comes to, given how many conditions are proved, or why not.
+fn finished(development: Development, count: Result<u64, Fault>) -> Result<Finished, OutOfMemory>
+    requires { (cert : List ℕ) × IsCountOn (development_view development) cert count }
+    ensures exactly { (cert : List ℕ) → IsCountOn (development_view development) cert count → IfOk result (IsFinishedOn (development_view development) cert) }
+    ensures linearizable { IfFinished result (λ D. IsLinearizableObject D.specification D.object) }
+{
+    match count {
+        Ok(count) => {
+            conditions_use_their_variables(&development);
+            derived_is_linearizable(&development);
+            Ok(Finished::Accepted(Accepted::new(development, count)))
+        }
+        Err(fault) => declined(development, fault),
+    }
+}
+
 impl Stage {
     ghost use Rattle.std.specs.Prelude.{ℕ, List, IfOk};
     ghost use Rattle.lc_outline.specs.DevelopmentView.{development_view};
     ghost use Rattle.lc_sound.specs.Linearizable.{IsLinearizableObject};
     ghost use Rattle.lc_check.specs.UpTo.{IsUpTo};
-    ghost use Rattle.lc_check.specs.VerdictView.{development_in, IsAnswerOn};
+    ghost use Rattle.lc_check.specs.VerdictView.{IsFinishedOn, IfFinished};
 
-    /// What is accepted of the development and the certificate file, which ends here, if they are.
-    fn proven(self) -> Result<Accepted, Fault>
+    /// What the development and the certificate file, which ends here, come to.
+    fn ended<P: Prover>(self, prover: &mut P) -> Result<Finished, OutOfMemory>
         requires { (fed : List ℕ) × IsUpTo (development_view self.development) fed self.reader self.progress }
-        ensures exactly { (cert : List ℕ) → IsUpTo (development_view self.development) cert self.reader self.progress → IsAnswerOn (development_view self.development) cert result }
-        ensures linearizable { IfOk result (λ a. IsLinearizableObject (development_in a).specification (development_in a).object) }
+        ensures exactly { (cert : List ℕ) → IsUpTo (development_view self.development) cert self.reader self.progress → IfOk result (IsFinishedOn (development_view self.development) cert) }
+        ensures linearizable { IfFinished result (λ D. IsLinearizableObject D.specification D.object) }
     {
         let Stage {
             alloc,
@@ -113,11 +159,8 @@ impl Stage {
             mut progress,
             out_of_memory: _,
         } = self;
-        reader.finish(&development)?;
-        let count = progress.answer(alloc, &development)?;
-        conditions_use_their_variables(&development);
-        derived_is_linearizable(&development);
-        Ok(Accepted::new(development, count))
+        let count = counted(alloc, &development, prover, reader, &mut progress);
+        finished(development, count)
     }
 }
 
@@ -127,7 +170,7 @@ impl CertificateSession {
     ghost use Rattle.lc_outline.specs.DevelopmentView.{development_view};
     ghost use Rattle.lc_sound.specs.Linearizable.{IsLinearizableObject};
     ghost use Rattle.lc_check.specs.Stages.{IsFedOn, is_spent_on};
-    ghost use Rattle.lc_check.specs.VerdictView.{IsVerdictOn, IfAccepted};
+    ghost use Rattle.lc_check.specs.VerdictView.{IsFinishedOn, IsVerdictOn, IfAccepted, IfFinished};
 
     /// A session of this development, which has been fed nothing.
     pub fn new(alloc: Global, development: Development) -> Result<CertificateSession, OutOfMemory>
@@ -153,6 +196,15 @@ impl CertificateSession {
         ensures spent { is_spent_on self.new ≡ is_err result }
         ensures never_again { is_spent_on self.old ≡ true → is_err result ≡ true }
     {
+        self.feed_by(&mut Alone, piece)
+    }
+
+    /// Takes the next piece of the certificate, which may be empty. This prover finds out whether its proofs hold.
+    pub fn feed_by<P: Prover>(&mut self, prover: &mut P, piece: &[u8]) -> Result<(), OutOfMemory>
+        ensures fed { OnOk result ((D : Shown) → (fed : List ℕ) → IsFedOn D fed self.old → IsFedOn D (fed ++ piece.now) self.new) }
+        ensures spent { is_spent_on self.new ≡ is_err result }
+        ensures never_again { is_spent_on self.old ≡ true → is_err result ≡ true }
+    {
         if self.stage.out_of_memory {
             return Err(OutOfMemory);
         }
@@ -160,7 +212,7 @@ impl CertificateSession {
         feed_all(
             self.stage.alloc,
             &self.stage.development,
-            &mut Alone,
+            prover,
             &mut self.stage.reader,
             &mut self.stage.progress,
             piece,
@@ -175,13 +227,23 @@ impl CertificateSession {
         ensures linearizable { IfAccepted result (λ D. IsLinearizableObject D.specification D.object) }
         ensures never_again { is_spent_on self ≡ true → is_err result ≡ true }
     {
+        let finished = self.finish_by(&mut Alone)?;
+        match finished {
+            Finished::Accepted(accepted) => Ok(Verdict::Accepted(accepted)),
+            Finished::Refused(refusal, _) => Ok(Verdict::Refused(refusal)),
+        }
+    }
+
+    /// The verdict, as `finish` says; the development is handed back if it is not accepted. If the certificate ends before a condition, this
+    /// prover is told which.
+    pub fn finish_by<P: Prover>(self, prover: &mut P) -> Result<Finished, OutOfMemory>
+        ensures exactly { (D : Shown) → (cert : List ℕ) → IsFedOn D cert self → IfOk result (IsFinishedOn D cert) }
+        ensures linearizable { IfFinished result (λ D. IsLinearizableObject D.specification D.object) }
+        ensures never_again { is_spent_on self ≡ true → is_err result ≡ true }
+    {
         if self.stage.out_of_memory {
             return Err(OutOfMemory);
         }
-        match self.stage.proven() {
-            Ok(accepted) => Ok(Verdict::Accepted(accepted)),
-            Err(Fault::Refused(refusal)) => Ok(Verdict::Refused(refusal)),
-            Err(Fault::OutOfMemory) => Err(OutOfMemory),
-        }
+        self.stage.ended(prover)
     }
 }

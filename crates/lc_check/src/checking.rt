@@ -7,7 +7,7 @@ ghost use Rattle.lc_outline_text.specs.Developments.{file_reading};
 ghost use Rattle.lc_sound.specs.Linearizable.{IsLinearizableObject};
 ghost use Rattle.lc_check.specs.VerdictView.{IsVerdictOn, IsVerdict, IfAccepted, IsCountOn};
 
-use crate::certificate_session::{CertificateSession, derived_is_linearizable, feed_all};
+use crate::certificate_session::{CertificateSession, counted, derived_is_linearizable, feed_all};
 use crate::progress::Progress;
 use crate::proving::{Alone, Prover};
 use crate::session::Session;
@@ -73,10 +73,7 @@ pub fn proven_count_by<P: Prover>(
     let mut reader = CertReader::new(alloc, development)?;
     let mut progress = Progress::new(alloc, development)?;
     feed_all(alloc, development, prover, &mut reader, &mut progress, cert)?;
-    if let Err(fault) = reader.finish(development) {
-        return Err(fault);
-    }
-    progress.answer(alloc, development)
+    counted(alloc, development, prover, reader, &mut progress)
 }
 
 // The verdict if no count is known for this reason.

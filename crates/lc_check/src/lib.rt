@@ -14,5 +14,5 @@ pub use certificate_session::CertificateSession;
 pub use checking::{check, check_certificate, proven_count, proven_count_by, verdict_by_count};
 pub use proving::{Alone, Prover, prove_one};
 pub use session::Session;
-pub use verdict::{Accepted, Verdict};
+pub use verdict::{Accepted, Finished, Verdict};
 pub use walk::Walk;

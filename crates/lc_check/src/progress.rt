@@ -89,6 +89,7 @@ impl Progress {
             return Ok(());
         }
         if entry.number != self.walk.next {
+            self.walk.report_missing(alloc, development, prover);
             self.told = Some(Refusal::Missing(self.walk.next));
             return Ok(());
         }
@@ -97,7 +98,13 @@ impl Progress {
 
     /// How many conditions there are, if those that were taken are all proofs, and each condition is proved, and there is no
     /// other proof; else why they are refused.
-    pub(crate) fn answer(&mut self, alloc: Global, development: &Development) -> Result<u64, Fault>
+    pub(crate) fn answer<P: Prover>(
+        &mut self,
+        alloc: Global,
+        development: &Development,
+        prover: &mut P,
+    ) -> Result<u64, Fault>
+        requires { (taken : List Proved) × IsProgress (development_view development.now) taken self.old }
         ensures { (taken : List Proved) → IsProgress (development_view development.now) taken self.old → is_rising None taken ≡ true →
             CountsAll taken (conditions (development_view development.now)) result }
     {
@@ -105,6 +112,7 @@ impl Progress {
             return Err(Fault::Refused(refusal));
         }
         if self.walk.advance(alloc, development)? {
+            self.walk.report_missing(alloc, development, prover);
             return Err(Fault::Refused(Refusal::Missing(self.walk.next)));
         }
         Ok(self.walk.next)

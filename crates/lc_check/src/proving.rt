@@ -10,6 +10,7 @@ ghost use Rattle.lc_check.specs.Answers.{IsBounded, fault_of, ProvesOne};
 use lc_base::{Fault, Refusal};
 use lc_cond::Condition;
 use lc_kernel::{Proof, ProofFault, prove};
+use lc_outline::Development;
 use lc_table::Terms;
 use std::alloc::Global;
 
@@ -56,10 +57,11 @@ pub trait Prover {
     ghost use Rattle.lc_cond.specs.ConditionView.{condition_in, IsCondition};
     ghost use Rattle.lc_check.specs.Answers.{IsBounded, ProvesOne};
 
-    /// Whether the proof derives the condition of this number.
+    /// Whether the proof derives the condition of this number of a development.
     fn prove(
         &mut self,
         alloc: Global,
+        development: &Development,
         terms: &mut Terms,
         number: u64,
         condition: &Condition,
@@ -70,6 +72,18 @@ pub trait Prover {
         requires steps { size (proof_of proof.now) ≤ file_limit }
         ensures exactly { ProvesOne number (condition_in terms.old condition.now) (proof_of proof.now) result }
         ensures kept { Keeps terms.old terms.new };
+
+    /// Takes note of the condition of this number of a development, the first one of which there is no proof. By default nothing is done.
+    fn miss(
+        &mut self,
+        alloc: Global,
+        development: &Development,
+        terms: &Terms,
+        number: u64,
+        condition: &Condition,
+    )
+        requires { IsCondition terms.now condition.now }
+    {}
 }
 
 /// Calls `prove_one`, and does nothing else.
@@ -80,6 +94,7 @@ impl Prover for Alone {
     fn prove(
         &mut self,
         alloc: Global,
+        _development: &Development,
         terms: &mut Terms,
         number: u64,
         condition: &Condition,

@@ -16,6 +16,15 @@ pub enum Verdict {
     Refused(Refusal),
 }
 
+/// What a session comes to: a verdict that hands back the development which is not accepted.
+#[derive(Drop)]
+pub enum Finished {
+    /// The certificate has a derivation of each condition of the development, and no other proof.
+    Accepted(Accepted),
+    /// The first refusal of the certificate, and the development.
+    Refused(Refusal, Development),
+}
+
 /// A development each of whose conditions has a derivation.
 #[derive(Drop)]
 pub struct Accepted {

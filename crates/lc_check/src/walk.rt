@@ -65,7 +65,7 @@ impl Walk {
     ghost use Rattle.lc_kernel.specs.View.{proof_of};
     ghost use Rattle.lc_outline.specs.DevelopmentView.{development_view};
     ghost use Rattle.lc_cert.specs.Certificates.{Entry as Proved};
-    ghost use Rattle.lc_check.specs.Walking.{HasNext, IsInTurn, IsAdvanced, IsProvenOn};
+    ghost use Rattle.lc_check.specs.Walking.{HasNext, IsKnown, IsInTurn, IsAdvanced, IsProvenOn};
 
     /// No proof was taken.
     pub fn new(alloc: Global, development: &Development) -> Result<Walk, OutOfMemory>
@@ -136,7 +136,14 @@ impl Walk {
         conditions_use_their_variables(development);
         conditions_have_few_variables(development);
         let condition = &self.part[self.place];
-        match prover.prove(alloc, &mut self.terms, self.next, condition, proof) {
+        match prover.prove(
+            alloc,
+            development,
+            &mut self.terms,
+            self.next,
+            condition,
+            proof,
+        ) {
             Ok(()) => {
                 self.next = number_behind(self.next)?;
                 self.place += 1;
@@ -144,5 +151,19 @@ impl Walk {
             }
             Err(fault) => Err(fault),
         }
+    }
+
+    /// Tells this prover that there is no proof of the next condition.
+    pub(crate) fn report_missing<P: Prover>(
+        &self,
+        alloc: Global,
+        development: &Development,
+        prover: &mut P,
+    )
+        requires known { IsKnown self.now }
+        requires stands { HasNext self.now }
+    {
+        let condition = &self.part[self.place];
+        prover.miss(alloc, development, &self.terms, self.next, condition);
     }
 }

@@ -1,1 +1,1 @@
-mod Answering
+pub mod Answering

@@ -4,32 +4,29 @@ use Rattle.std.specs.Prelude.{Result, IfOk}
 use Rattle.std.specs.declared.alloc.Global.{Global}
 use Rattle.std.proofs.lemmas.List.{map-append, take-map}
 use Rattle.lc_base.specs.declared.ids.ColId.{ColId}
-use Rattle.lc_table.specs.PutNumbers.{columns_at, AreColumns, terms_in, AreTerms}
+use Rattle.lc_put.specs.PutNumbers.{columns_at, AreColumns, terms_in, AreTerms}
 use Rattle.lc_term.specs.Syntax.{Term, Column, Formula}
 use Rattle.lc_table.specs.NodeTables.{Table}
 use Rattle.lc_table.specs.Tables.{Keeps, formula_in, formulas_in, HasFormula, AreFormulas}
 use Rattle.lc_table.specs.declared.node.TermId.{TermId}
 use Rattle.lc_table.specs.declared.node.ColExprId.{ColExprId}
 use Rattle.lc_table.specs.declared.node.FormulaId.{FormulaId}
-use Rattle.lc_table.proofs.ByNumber.{are_terms_later, terms_still, are_columns_later, columns_still}
+use Rattle.lc_put.proofs.ByNumber.{are_terms_later, terms_still, are_columns_later, columns_still}
 use Rattle.lc_table.proofs.Later.{are_formulas_still, formulas_still, is_formula_still, formula_still, formula_is, are_formulas_pushed, formulas_pushed}
 use Rattle.lc_cond.specs.Conditions as S
 use Rattle.lc_cond.specs.ConditionView.{kind_of, place_of, condition_in, IsCondition, AreConditions}
 use Rattle.lc_cond.specs.Adding.{HasFormulas, HasTerms, HasColumns, Adds}
 use Rattle.lc_cond.specs.declared.condition.Condition.{Condition}
+use Rattle.lc_kernel.proofs.Branches.{are_append}
 
 -- ---- formulas
 
 pub formulas_later : (old new : Table) (ks : List FormulaId) (fs : List Formula) → HasFormulas old ks fs → Keeps old new → HasFormulas new ks fs
 formulas_later old new ks fs h kept = record { are = are_formulas_still old new ks h.are kept; trees = formulas_still old new ks h.are kept ∙ h.trees }
 
-are_joined : (ts : Table) (ks ls : List FormulaId) → AreFormulas ts ks → AreFormulas ts ls → AreFormulas ts (ks ++ ls)
-are_joined ts [] ls a b = b
-are_joined ts (k ∷ ks) ls a b = (a.0, are_joined ts ks ls a.1 b)
-
 pub formulas_joined : (ts : Table) (ks ls : List FormulaId) (fs gs : List Formula) → HasFormulas ts ks fs → HasFormulas ts ls gs → HasFormulas ts (ks ++ ls) (fs ++ gs)
 formulas_joined ts ks ls fs gs a b = record {
-  are = are_joined ts ks ls a.are b.are;
+  are = are_append ts ks ls a.are b.are;
   trees = map-append (formula_in ts) ks ls ∙ ap₂ (λ x y. x ++ y) a.trees b.trees;
 }
 
@@ -91,17 +88,17 @@ columns_listed ts ps now σ h same = (let P : List (ColId × ColExprId) → Type
 
 -- ---- conditions
 
-condition_still : (old new : Table) (c : Condition) → IsCondition old c → Keeps old new → condition_in new c ≡ condition_in old c
+pub condition_still : (old new : Table) (c : Condition) → IsCondition old c → Keeps old new → condition_in new c ≡ condition_in old c
 condition_still old new c h kept =
     ap₂ (λ hs g. record { kind = kind_of c.kind; place = place_of c.place; variables = c.goal.vars; hypotheses = hs; goal = g })
     (formulas_still old new c.goal.hypotheses h.0 kept) (formula_still old new c.goal.goal h.1 kept)
 
-are_later : (old new : Table) (cs : List Condition) → AreConditions old cs → Keeps old new → AreConditions new cs
+pub are_later : (old new : Table) (cs : List Condition) → AreConditions old cs → Keeps old new → AreConditions new cs
 are_later old new [] h kept = tt
 are_later old new (c ∷ cs) h kept =
     ((are_formulas_still old new c.goal.hypotheses h.0.0 kept, is_formula_still old new c.goal.goal h.0.1 kept), are_later old new cs h.1 kept)
 
-conditions_still : (old new : Table) (cs : List Condition) → AreConditions old cs → Keeps old new → map (condition_in new) cs ≡ map (condition_in old) cs
+pub conditions_still : (old new : Table) (cs : List Condition) → AreConditions old cs → Keeps old new → map (condition_in new) cs ≡ map (condition_in old) cs
 conditions_still old new [] h kept = refl
 conditions_still old new (c ∷ cs) h kept = ap₂ (λ x xs. x ∷ xs) (condition_still old new c h.0 kept) (conditions_still old new cs h.1 kept)
 

@@ -4,12 +4,13 @@ use Rattle.std.specs.Prelude.{nat_lt, slice_get}
 use Rattle.std.specs.List.{list_all}
 use Rattle.std.proofs.lemmas.Bool.{and_from}
 use Rattle.std.proofs.lemmas.Option.{same_Some}
+use Rattle.lc_lemmas.proofs.Booleans.{left_true, right_true}
+use Rattle.lc_lemmas.proofs.Lists.{at_all}
 use Rattle.lc_term.specs.Lists.{Every}
 use Rattle.lc_term.specs.Syntax.{Term, Number, Variable, Bound, Add, Subtract, Multiply, Read}
 use Rattle.lc_term.specs.Syntax.{Formula, Le, Eq, Not, And, Or, Implies, Forall, Exists, Formulas, none, more}
 use Rattle.lc_term.specs.Places.{all_pass}
 use Rattle.lc_term.proofs.Stores.{Every-append, Every-map}
-use Rattle.lc_term.proofs.Tests.{left_true, right_true, at_all}
 use Rattle.lc_object.specs.Syntax.{Instr, Load, Store, Cas, Set, Faa, If, Return, Operation, Point, Object}
 use Rattle.lc_object.specs.Edges.{Edge, array_columns, reads, row_updates, row_sums, row_facts, edges_at, edges_from, edges}
 use Rattle.lc_object.specs.WellFormed.{variable_count, has_limits, is_code_term, are_code_terms, is_code_formula, are_code_formulas, passes_at, is_instruction, is_point, is_object}

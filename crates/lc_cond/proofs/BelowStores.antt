@@ -8,7 +8,8 @@ use Rattle.lc_term.specs.Updates.{Update, assigned}
 use Rattle.lc_term.specs.Said.{put, puts, said, after, variables_from, reads}
 use Rattle.lc_kernel.specs.Below.{term_below, column_below}
 use Rattle.lc_cond.proofs.Below.{ColumnsBelow, TermsBelow, told_term-below}
-use Rattle.lc_cond.proofs.Elements.{Every-mapped, Every-take, Every-assigned}
+use Rattle.lc_cond.proofs.Elements.{Every-mapped, Every-assigned}
+use Rattle.lc_term.proofs.Lists.{Every-take}
 
 -- ---- stores
 

@@ -1,11 +1,11 @@
 -- The conditions of columns, one after another, and what columns hold, by number.
 use Rattle.std.proofs.Common.{◌≡◌, ℕ, zero, suc, ◌+◌, ◌<◌, ◌&&◌, ◌==◌, List, [], ◌∷◌, ◌++◌, length, take, get_or, if◌then◌else◌, refl, sym, subst, ap, ap₂, ◌∙◌, arith, append_assoc, append-nil, add-zero, add-one, true, false}
-use Rattle.std.proofs.lemmas.Bool.Decides.{nat_tests}
 use Rattle.std.proofs.lemmas.List.{take_more}
+use Rattle.lc_lemmas.proofs.Numbers.{equal_to_itself}
 use Rattle.lc_base.specs.declared.ids.ColId.{ColId}
 use Rattle.lc_term.specs.Lists.{Every}
 use Rattle.lc_table.specs.NodeTables.{Table}
-use Rattle.lc_table.specs.PutNumbers.{columns_at}
+use Rattle.lc_put.specs.PutNumbers.{columns_at}
 use Rattle.lc_term.specs.Syntax.{Column, Formula, Base}
 use Rattle.lc_table.specs.Tables.{Keeps, column_in}
 use Rattle.lc_table.specs.declared.node.ColExprId.{ColExprId}
@@ -49,16 +49,13 @@ pub none_stored : (ts : Table) (ps : List (ColId × ColExprId)) (c : ℕ) → Ha
 none_stored ts [] c h = refl
 none_stored ts (p ∷ ps) c h = ap (λ b. if b then column_in ts p.1 else columns_at ts ps c) h.0 ∙ none_stored ts ps c h.1
 
-same_self : (c : ℕ) → (c == c) ≡ true
-same_self c = grind (arith, nat_tests)
-
 -- a column in which nothing is stored has no condition
 pub column_absent : (h : Head) (c : ℕ) (hs : List Formula) (ts : Table) (ps qs : List (ColId × ColExprId)) (σ π : ℕ → Column) → HasColumns ts ps σ → HasColumns ts qs π → columns_at ts ps c ≡ Base c → columns_at ts qs c ≡ Base c →
     (before : List M.Condition) → Adds before ts before (if is_base c (σ c) && is_base c (π c) then [] else condition_made h (OfColumn c) hs (same_column (σ c) (π c)) ∷ [])
 column_absent h c hs ts ps qs σ π columns action left right before =
     let l : σ c ≡ Base c = ap (λ (ρ : ℕ → Column). ρ c) (sym columns.columns) ∙ left in
     let r : π c ≡ Base c = ap (λ (ρ : ℕ → Column). ρ c) (sym action.columns) ∙ right in
-    let unwritten : (is_base c (σ c) && is_base c (π c)) ≡ true = ap₂ (λ x y. is_base c x && is_base c y) l r ∙ ap (λ b. b && b) (same_self c) in
+    let unwritten : (is_base c (σ c) && is_base c (π c)) ≡ true = ap₂ (λ x y. is_base c x && is_base c y) l r ∙ ap (λ b. b && b) (equal_to_itself c) in
     subst (λ b. Adds before ts before (if b then [] else condition_made h (OfColumn c) hs (same_column (σ c) (π c)) ∷ [])) (sym unwritten) (adds_nothing before ts)
 
 -- the condition for what it holds

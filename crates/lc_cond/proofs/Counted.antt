@@ -1,5 +1,5 @@
 -- Variables in order, and zeros after them.
-use Rattle.std.proofs.Common.{◌≡◌, ℕ, zero, suc, ◌+◌, List, [], ◌∷◌, ◌++◌, if◌then◌else◌, nat_lt, pos, map, refl, sym, ap, ◌∙◌, arith, add-zero, add-one, true, ◌<◌}
+use Rattle.std.proofs.Common.{◌≡◌, ℕ, zero, suc, ◌+◌, List, [], ◌∷◌, ◌++◌, if◌then◌else◌, nat_lt, pos, map, refl, sym, ap, ◌∙◌, arith, true, ◌<◌}
 use Rattle.std.proofs.lemmas.Bool.Decides.{nat_tests}
 use Rattle.lc_term.specs.Syntax.{Term, Number, Variable}
 use Rattle.lc_term.specs.Said.{variables_from}
@@ -8,14 +8,7 @@ use Rattle.lc_term.specs.declared.term.Term as T
 use Rattle.lc_term.specs.declared.term.Term.TheVariants as V
 use Rattle.std.proofs.lemmas.List.{map-append}
 use Rattle.lc_cond.specs.Conditions.{padded}
-
-variables-snoc : (n k : ℕ) → variables_from n (suc k) ≡ variables_from n k ++ Variable (n + k) ∷ []
-variables-snoc n zero = ap (λ m. Variable m ∷ []) (sym (add-zero n))
-variables-snoc n (suc k) = let e : suc n + k ≡ n + suc k = omega arith in ap (λ l. Variable n ∷ l) (variables-snoc (suc n) k ∙ ap (λ m. variables_from (suc n) k ++ Variable m ∷ []) e)
-
--- one variable more
-pub variables_more : (n k : ℕ) → variables_from n (k + 1) ≡ variables_from n k ++ Variable (n + k) ∷ []
-variables_more n k = ap (variables_from n) (add-one k) ∙ variables-snoc n k
+use Rattle.lc_rider.proofs.PathSteps.{variables_more}
 
 abbrev pub argument : ℕ → ℕ → Term
 argument n i = if nat_lt i n then Variable (2 + i) else Number (pos 0)

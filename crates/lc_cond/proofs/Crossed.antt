@@ -3,6 +3,7 @@ use Rattle.std.proofs.Common.{◌≡◌, ℕ, zero, suc, ◌+◌, ◌<◌, Some,
 use Rattle.std.specs.Prelude.{Option, None, option_map, slice_get}
 use Rattle.std.proofs.lemmas.Option.{slice_get-get_or}
 use Rattle.std.proofs.lemmas.List.{map-append, take_more, take_all, length-map, length-take-le}
+use Rattle.lc_lemmas.proofs.Lists.{mapped_get}
 use Rattle.lc_base.specs.declared.ids.PointId.{PointId}
 use Rattle.lc_term.specs.Lists.{Every, numbered, concat_places}
 use Rattle.lc_table.specs.NodeTables.{Table}
@@ -92,12 +93,6 @@ have_goals ts D n hs fs (a ∷ actions) (c ∷ cs) h =
 pub goals_enough : (count k : ℕ) (cs : List Crossing) → HaveGoals count cs → k < count → Every (λ (c : Crossing). k < length c.goals.items) cs
 goals_enough count k [] h below = tt
 goals_enough count k (c ∷ cs) h below = let e = h.0 in (omega arith, goals_enough count k cs h.1 below)
-
--- the goal at a place
-mapped_get : {A B : Type 0} (f : A → B) (xs : List A) (i : ℕ) (x : A) → slice_get xs i ≡ Some x → slice_get (map f xs) i ≡ Some (f x)
-mapped_get f [] i x h = cc
-mapped_get f (y ∷ xs) zero x h = let e : y ≡ x = cc in ap (λ z. Some (f z)) e
-mapped_get f (y ∷ xs) (suc i) x h = mapped_get f xs i x h
 
 formula_there : (ts : Table) (ks : List FormulaId) (i : ℕ) (d : FormulaId) (f : Formula) → AreFormulas ts ks → slice_get (formulas_in ts ks) i ≡ Some f → HasFormula ts (get_or ks i d) f
 formula_there ts [] i d f are h = cc

@@ -1,5 +1,5 @@
 -- What holds of each element of lists that are made of others.
-use Rattle.std.proofs.Common.{◌≡◌, ℕ, zero, suc, ◌+◌, List, [], ◌∷◌, map, take, replicate, Some, refl, subst, arith}
+use Rattle.std.proofs.Common.{◌≡◌, ℕ, zero, suc, ◌+◌, List, [], ◌∷◌, map, replicate, Some, refl, subst, arith}
 use Rattle.std.specs.Prelude.{slice_get, slice_set}
 use Rattle.lc_term.specs.Lists.{Every, numbered, concat_map, concat_places}
 use Rattle.lc_term.specs.Updates.{assigned}
@@ -8,11 +8,6 @@ use Rattle.lc_term.proofs.Stores.{Every-append}
 pub Every-mapped : {A B : Type 0} (P : B → Type 0) (f : A → B) (xs : List A) → ((x : A) → P (f x)) → Every P (map f xs)
 Every-mapped P f [] h = tt
 Every-mapped P f (x ∷ xs) h = (h x, Every-mapped P f xs h)
-
-pub Every-take : {A : Type 0} (P : A → Type 0) (n : ℕ) (xs : List A) → Every P xs → Every P (take n xs)
-Every-take P zero xs h = tt
-Every-take P (suc n) [] h = tt
-Every-take P (suc n) (x ∷ xs) h = (h.0, Every-take P n xs h.1)
 
 Every-set : {A : Type 0} (P : A → Type 0) (xs : List A) (k : ℕ) (y : A) → Every P xs → P y → Every P (slice_set xs k y)
 Every-set P [] k y h p = tt

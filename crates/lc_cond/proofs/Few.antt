@@ -1,15 +1,16 @@
 -- What a development has few of: operations and points, variables of an operation, conditions.
-use Rattle.std.proofs.Common.{◌≡◌, ℕ, zero, suc, ◌+◌, ◌*◌, ◌<◌, ◌≤◌, ◌&&◌, ◌++◌, Bool, true, List, [], ◌∷◌, map, length, get_or, Option, Some, None, option_map, refl, sym, ap, ◌∙◌, subst, arith}
+use Rattle.std.proofs.Common.{◌≡◌, ℕ, zero, suc, ◌+◌, ◌*◌, ◌≤◌, ◌&&◌, ◌++◌, Bool, true, List, [], ◌∷◌, map, length, Option, Some, None, refl, sym, ap, ◌∙◌, subst, arith}
 use Rattle.std.specs.Prelude.{slice_get, nat_le}
 use Rattle.std.specs.List.{list_all}
-use Rattle.std.proofs.lemmas.Bool.Decides.{nat_tests}
 use Rattle.std.proofs.lemmas.List.{length-append, length-map}
-use Rattle.std.proofs.lemmas.Option.{same_Some, slice_get-get_or, slice_get-map, slice_get_past}
+use Rattle.std.proofs.lemmas.Option.{same_Some, slice_get_past}
+use Rattle.std.proofs.lemmas.Bool.{leb-true}
+use Rattle.lc_lemmas.proofs.Booleans.{left_true, right_true}
+use Rattle.lc_lemmas.proofs.Lists.{at_all}
 use Rattle.lc_base.specs.Limits.{action_limit, argument_limit, column_limit, condition_limit, local_limit, operation_limit, parameter_limit, point_limit, reply_limit}
 use Rattle.lc_term.specs.Lists.{Every, numbered, concat_map, concat_places}
 use Rattle.lc_term.specs.Syntax.{Formula}
 use Rattle.lc_term.proofs.Stores.{Every-map}
-use Rattle.lc_term.proofs.Tests.{left_true, right_true, at_all}
 use Rattle.lc_object.specs.Edges.{Edge, edges}
 use Rattle.lc_object.specs.Syntax as O
 use Rattle.lc_object.specs.View.{operation_of}
@@ -28,25 +29,13 @@ use Rattle.lc_cond.specs.Crossings.{code_variable_limit, TakesFew}
 use Rattle.lc_cond.specs.PartView.{part_of, parts_along, HasLimits}
 use Rattle.lc_cond.specs.declared.part.Part.{Part}
 use Rattle.lc_cond.specs.declared.part.Part.TheVariants.{Start, Begin, Pass, Stay, StayIdle}
-use Rattle.lc_cond.proofs.Sized.{start_sized, stable_length, are_counted}
+use Rattle.lc_cond.proofs.Sized.{start_sized, stable_length, are_counted, every_at}
 
 -- ---- lists
-
--- the place of something that is seen so
-pub seen_at : {A C : Type 0} (view : C → A) (xs : List C) (ys : List A) (i : ℕ) (x : C) → map view xs ≡ ys → i < length xs → x ≡ get_or xs i x → slice_get ys i ≡ Some (view x)
-seen_at view xs ys i x e below is = ap (λ l. slice_get l i) (sym e) ∙ slice_get-map view xs i ∙ ap (option_map view) (slice_get-get_or xs i x below ∙ ap Some (sym is))
 
 -- as many are seen as there are
 pub seen_length : {A C : Type 0} (view : C → A) (xs : List C) (ys : List A) → map view xs ≡ ys → length xs ≡ length ys
 seen_length view xs ys e = sym (length-map xs view) ∙ ap length e
-
-every_at : {A : Type 0} (P : A → Type 0) (xs : List A) (k : ℕ) (x : A) → Every P xs → slice_get xs k ≡ Some x → P x
-every_at P [] k x h e = cc
-every_at P (y ∷ xs) zero x h e = subst P (same_Some y x e) h.0
-every_at P (y ∷ xs) (suc k) x h e = every_at P xs k x h.1 e
-
-few : (k limit : ℕ) → nat_le k limit ≡ true → k ≤ limit
-few k limit e = grind (arith, nat_tests)
 
 -- formulas speak of no more variables than of more
 pub below_more : (m n : ℕ) (fs : List Formula) → m ≤ n → Every (IsBelow m) fs → Every (IsBelow n) fs
@@ -56,13 +45,13 @@ below_more m n fs le h = Every-map (IsBelow m) (IsBelow n) fs (λ f g. formula_b
 
 pub arguments_few : (o : O.Operation) → has_limits o ≡ true → length o.arguments ≤ argument_limit
 arguments_few o h =
-    few (length o.arguments) argument_limit
+    leb-true (length o.arguments) argument_limit
     (left_true (nat_le (length o.arguments) argument_limit) (nat_le o.replies reply_limit)
     (left_true (nat_le (length o.arguments) argument_limit && nat_le o.replies reply_limit) (nat_le (length o.locals) local_limit) h))
 
 pub locals_few : (o : O.Operation) → has_limits o ≡ true → length o.locals ≤ local_limit
 locals_few o h =
-    few (length o.locals) local_limit (right_true (nat_le (length o.arguments) argument_limit && nat_le o.replies reply_limit) (nat_le (length o.locals) local_limit) h)
+    leb-true (length o.locals) local_limit (right_true (nat_le (length o.arguments) argument_limit && nat_le o.replies reply_limit) (nat_le (length o.locals) local_limit) h)
 
 pub variables_few : (o : O.Operation) → has_limits o ≡ true → variable_count o ≤ code_variable_limit
 variables_few o h = (let a = arguments_few o h in let l = locals_few o h in omega (arith, a, l))
@@ -122,12 +111,12 @@ module _ (D : Development) (h : is_resolved D ≡ true) where
 
   pub operations_few : length D.object.operations ≤ operation_limit
   operations_few =
-      few (length D.object.operations) operation_limit
+      leb-true (length D.object.operations) operation_limit
       (right_true (are_apart D.object.arrays) (nat_le (length D.object.operations) operation_limit) (left_true _ (nat_le (length D.object.points) point_limit) counts_tested))
 
   pub points_few : length D.object.points ≤ point_limit
   points_few =
-      few (length D.object.points) point_limit (right_true (are_apart D.object.arrays && nat_le (length D.object.operations) operation_limit) (nat_le (length D.object.points) point_limit) counts_tested)
+      leb-true (length D.object.points) point_limit (right_true (are_apart D.object.arrays && nat_le (length D.object.operations) operation_limit) (nat_le (length D.object.points) point_limit) counts_tested)
 
   -- a declared action, which has three parameters at most
   pub action_few : (k : ℕ) (a : Action) → slice_get D.actions k ≡ Some a → TakesFew a
@@ -164,13 +153,13 @@ module _ (D : Development) (t : is_limited D ≡ true) where
   counts_limited = left_true _ (nat_le (count (sizes_of D)) condition_limit) t
 
   pub columns_few : first_system D ≤ column_limit
-  columns_few = few (first_system D) column_limit (left_true has_few_columns has_few_actions (left_true (has_few_columns && has_few_actions) has_few_paths counts_limited))
+  columns_few = leb-true (first_system D) column_limit (left_true has_few_columns has_few_actions (left_true (has_few_columns && has_few_actions) has_few_paths counts_limited))
 
   paths_few : has_few_paths ≡ true
   paths_few = right_true (has_few_columns && has_few_actions) has_few_paths counts_limited
 
   counted_few : count (sizes_of D) ≤ condition_limit
-  counted_few = few (count (sizes_of D)) condition_limit (right_true (has_few_columns && has_few_actions && has_few_paths) (nat_le (count (sizes_of D)) condition_limit) t)
+  counted_few = leb-true (count (sizes_of D)) condition_limit (right_true (has_few_columns && has_few_actions && has_few_paths) (nat_le (count (sizes_of D)) condition_limit) t)
 
 module _ (D : Development) (h : is_resolved D ≡ true) (t : is_limited D ≡ true) where
   pub conditions_few : length (conditions D) ≤ condition_limit

@@ -4,8 +4,9 @@ use Rattle.std.specs.Prelude.{slice_get, sum_by}
 use Rattle.std.proofs.Math.Nat.{suc-mul}
 use Rattle.std.proofs.lemmas.List.{length-append, length-map}
 use Rattle.std.proofs.lemmas.List.Sums.{sum_by-cons}
+use Rattle.std.proofs.lemmas.Option.{slice_get_within}
 use Rattle.lc_base.specs.Limits.{condition_limit, rider_limit}
-use Rattle.lc_term.specs.Lists.{Every, numbered, concat_map}
+use Rattle.lc_term.specs.Lists.{Every, numbered}
 use Rattle.lc_term.specs.Syntax.{Term, Variable, Column, Formula, Not}
 use Rattle.lc_term.specs.Replacement.{replacing, replace_term}
 use Rattle.lc_term.specs.Said.{term_at, told}
@@ -25,7 +26,7 @@ use Rattle.lc_outline.specs.Development.{Development, On, first_system, on_at, a
 use Rattle.lc_outline.specs.Limits.{IsLimited, is_limited}
 use Rattle.lc_outline.specs.Resolved.{is_resolved}
 use Rattle.lc_outline.specs.Sizes.{asked_of, returned}
-use Rattle.lc_outline.proofs.Resolving.{passed_is_resolved}
+use Rattle.lc_outline.proofs.Resolving.{passed_is_resolved, every_weaker}
 use Rattle.lc_cond.specs.Adding.{Adds}
 use Rattle.lc_cond.specs.Conditions as S
 use Rattle.lc_cond.specs.Conditions.{idle_frame, body_frame, body_hypotheses, path_conditions, edge_conditions_in, edge_conditions, stable_conditions, point_stability, conditions_in}
@@ -37,19 +38,11 @@ use Rattle.lc_table.specs.NodeTables.{Table}
 use Rattle.lc_cond.proofs.Adding.{adds_to_none}
 use Rattle.lc_cond.proofs.Counts.{numbered_length, concat_places_length}
 use Rattle.lc_cond.proofs.Few.{operations_few, points_few, starts_few, idle_stays_few, asserts_stay_few}
-use Rattle.lc_cond.proofs.Numbered.{stands_within}
 use Rattle.lc_cond.proofs.Sized.{noting, length_of_observing, length_of_mark_duties, acted_size, on_size, path_size, path_length, entry_sized, start_sized, stable_length}
 use Rattle.lc_cond.proofs.Stored.{absent, changed}
+use Rattle.lc_term.proofs.Lists.{every_joined}
 
 -- ---- lists
-
-every_more : {A : Type 0} (P R : A → Type 0) → ((x : A) → P x → R x) → (xs : List A) → Every P xs → Every R xs
-every_more P R f [] h = tt
-every_more P R f (x ∷ xs) h = (f x h.0, every_more P R f xs h.1)
-
-every_joined : {A B : Type 0} (P : B → Type 0) (f : A → List B) (xs : List A) → Every (λ x. Every P (f x)) xs → Every P (concat_map f xs)
-every_joined P f [] h = tt
-every_joined P f (x ∷ xs) h = Every-append P (f x) (concat_map f xs) h.0 (every_joined P f xs h.1)
 
 -- so much of each
 sum_few : {A : Type 0} (F : A → ℕ) (m : ℕ) (xs : List A) → Every (λ x. F x ≤ m) xs → sum_by F xs ≤ length xs * m
@@ -92,7 +85,7 @@ pub parts_few : (D : Development) → is_resolved D ≡ true → (es : List Edge
 parts_few D h es few k p e =
     (let stays = numbered S.Stay 0 D.object.points in
     let begins = numbered S.Begin 0 D.object.operations in
-    let within = stands_within (parts_along D es) k p e in
+    let within = slice_get_within (parts_along D es) k p e in
     let a = length-append begins (map S.Pass es ++ (stays ++ S.StayIdle ∷ [])) in
     let b = length-append (map S.Pass es) (stays ++ S.StayIdle ∷ []) in
     let c = length-append stays (S.StayIdle ∷ []) in
@@ -148,7 +141,7 @@ module _ (ops : List Q.Operation) (first : ℕ) where
   path_duties n o τ (r ∷ rs) p m h =
       let later : (q : Path) → HasDuties (length p.duties + 3) q → Every (HasDuties m) (paths ops first (suc n) o τ rs q) = λ q few. path_duties (suc n) o τ rs q m (omega (arith, h, few)) in
       every_joined (HasDuties m) (paths ops first (suc n) o τ rs) (rider_paths ops first n o τ r p)
-      (every_more (HasDuties (length p.duties + 3)) (λ q. Every (HasDuties m) (paths ops first (suc n) o τ rs q)) later (rider_paths ops first n o τ r p)
+      (every_weaker (HasDuties (length p.duties + 3)) (λ q. Every (HasDuties m) (paths ops first (suc n) o τ rs q)) later (rider_paths ops first n o τ r p)
       (where_duties r.condition n o τ r.deed p (length p.duties + 3) (omega arith)))
 
 -- ---- what an action asks
@@ -210,7 +203,7 @@ module _ (D : Development) (h : is_resolved D ≡ true) (t : is_limited D ≡ tr
           let few = limits.paths e.point point e.kind at (first_system D) 0 (edge_variables v e) (path_start e) in
           let duties : Every (HasDuties (3 * rider_limit)) ps =
           path_duties D.specification.operations (first_system D) 0 point.operation (edge_variables v e) (riders_in on) (path_start e) (3 * rider_limit) (omega (arith, riders)) in
-          let each = every_more (HasDuties (3 * rider_limit)) (λ p. path_size D (passed_is_resolved D h) e on p ≤ 3 * condition_limit) (path_few e on) ps duties in
+          let each = every_weaker (HasDuties (3 * rider_limit)) (λ p. path_size D (passed_is_resolved D h) e on p ≤ 3 * condition_limit) (path_few e on) ps duties in
           let size = concat_places_length (path_size D (passed_is_resolved D h) e on) (path_conditions D e v on hs) (λ j p. path_length D (passed_is_resolved D h) e v on hs j p) 0 ps in
           let all = sum_few (path_size D (passed_is_resolved D h) e on) (3 * condition_limit) ps each in
           subst (λ n. n ≤ part_size_limit) (sym size) (omega (arith, few, all)))

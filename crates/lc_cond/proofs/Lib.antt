@@ -1,5 +1,5 @@
 mod PartsList
-mod Adding
+pub mod Adding
 mod Made
 mod Replacing
 mod Held
@@ -10,7 +10,8 @@ mod Counted
 mod Entered
 mod Crossed
 mod Parted
-mod Streamed
+pub mod Streamed
+mod Drained
 mod Stretched
 mod Numbered
 mod Stored

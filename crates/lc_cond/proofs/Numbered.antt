@@ -2,6 +2,7 @@
 use Rattle.std.proofs.Common.{◌≡◌, ℕ, zero, suc, ◌+◌, ◌*◌, ◌-◌, ◌<◌, ◌≤◌, Some, None, List, [], ◌∷◌, ◌++◌, map, length, take, get_or, slice_get, refl, sym, ap, ◌∙◌, subst, arith}
 use Rattle.std.proofs.lemmas.List.{length-append, length-map}
 use Rattle.std.proofs.lemmas.Option.{same_Some, slice_get_past}
+use Rattle.lc_lemmas.proofs.Lists.{kept_left}
 use Rattle.lc_term.specs.Lists.{concat_map}
 use Rattle.lc_table.specs.NodeTables.{Table}
 use Rattle.lc_object.specs.Syntax as O
@@ -17,7 +18,7 @@ use Rattle.lc_cond.specs.declared.numbering.NumberedPart.{NumberedPart}
 use Rattle.lc_cond.proofs.Adding.{adds_to_none}
 use Rattle.lc_cond.proofs.PartsList.{in_parts}
 use Rattle.lc_cond.proofs.Sized.{stable_length}
-use Rattle.lc_cond.proofs.Stretched.{stands_ahead, stands_behind}
+use Rattle.lc_cond.proofs.Stretched.{stands_behind}
 
 -- ---- lists that are joined
 
@@ -65,17 +66,11 @@ module _ {A B : Type 0} (f : A → List B) where
   stands (q ∷ ps) zero p j x h g =
       let e : p ≡ q = sym (same_Some q p h) in
       let none : 0 + j ≡ j = omega arith in
-      ap (slice_get (f q ++ concat_map f ps)) none ∙ stands_ahead (f q) (concat_map f ps) j x (ap (λ y. slice_get (f y) j) (sym e) ∙ g)
+      ap (slice_get (f q ++ concat_map f ps)) none ∙ kept_left (f q) (concat_map f ps) j x (ap (λ y. slice_get (f y) j) (sym e) ∙ g)
   stands (q ∷ ps) (suc k) p j x h g =
       let a = length-append (f q) (concat_map f (take k ps)) in
       let at : ahead (q ∷ ps) (suc k) + j ≡ length (f q) + (ahead ps k + j) = omega (arith, a) in
       ap (slice_get (f q ++ concat_map f ps)) at ∙ stands_behind (f q) (concat_map f ps) (ahead ps k + j) x (stands ps k p j x h g)
-
--- the place of something in a list
-pub stands_within : {A : Type 0} (xs : List A) (k : ℕ) (x : A) → slice_get xs k ≡ Some x → k < length xs
-stands_within [] k x e = cc
-stands_within (y ∷ xs) zero x e = omega arith
-stands_within (y ∷ xs) (suc k) x e = (let h = stands_within xs k x e in omega (arith, h))
 
 pub stands_not : {A : Type 0} (xs : List A) (k : ℕ) → slice_get xs k ≡ None → length xs ≤ k
 stands_not [] k e = omega arith

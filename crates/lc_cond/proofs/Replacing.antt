@@ -2,7 +2,7 @@
 use Rattle.std.proofs.Common.{◌≡◌, ℕ, ◌+◌, ◌<◌, List, [], ◌∷◌, ◌++◌, map, take, length, sym, subst, ap, ap₂, ◌∙◌, get_or}
 use Rattle.std.proofs.lemmas.List.{map-append, take_more}
 use Rattle.lc_base.specs.declared.ids.ColId.{ColId}
-use Rattle.lc_table.specs.PutNumbers.{replacement_at}
+use Rattle.lc_put.specs.PutNumbers.{replacement_at}
 use Rattle.lc_term.specs.Replacement.{Replacement, replacing, replace}
 use Rattle.lc_term.specs.Said.{term_at}
 use Rattle.lc_term.specs.Syntax.{Term, Column}

@@ -16,6 +16,7 @@ use Rattle.lc_cond.specs.Conditions as S
 use Rattle.lc_cond.specs.Conditions.{path_conditions, edge_conditions_in, at_end, conditions_of, on_path}
 use Rattle.lc_cond.specs.Scenes.{IsSceneOf, on_in, duty_conditions, outcome_conditions, path_conditions_in, reply_conditions, on_conditions_in, told_in, development_in, code_in}
 use Rattle.lc_cond.specs.declared.scene.Scene.{Scene}
+use Rattle.lc_term.proofs.Lists.{joined_last}
 
 pub concat_places-snoc : {A B : Type 0} (f : ℕ → A → List B) (k : ℕ) (xs : List A) (y : A) → concat_places f k (xs ++ y ∷ []) ≡ concat_places f k xs ++ f (k + length xs) y
 concat_places-snoc f k [] y = append-nil (f k y) ∙ ap (λ n. f n y) (sym (add-zero k))
@@ -59,11 +60,7 @@ in_body_said object f (Some p) k h = let e : p.operation ≡ k = cc in ap (λ n.
 pub in_operation_said : {A : Type 0} (f : ℕ → Operation → List A) (k : ℕ) (o : Option Operation) (operation : Operation) → Some operation ≡ o → in_operation f k o ≡ f k operation
 in_operation_said f k o operation h = ap (in_operation f k) (sym h)
 
-concat_map-snoc : {A B : Type 0} (f : A → List B) (xs : List A) (y : A) → concat_map f (xs ++ y ∷ []) ≡ concat_map f xs ++ f y
-concat_map-snoc f [] y = append-nil (f y)
-concat_map-snoc f (x ∷ xs) y = ap (λ l. f x ++ l) (concat_map-snoc f xs y) ∙ sym (append_assoc (f x) (concat_map f xs) (f y))
-
 -- what comes of one more, whatever its place is
 pub mapped_more : {A B C : Type 0} (f : A → List B) (view : C → A) (xs : List C) (i : ℕ) (x : C) → i < length xs → x ≡ get_or xs i x → concat_map f (map view (take (i + 1) xs)) ≡ concat_map f (map view (take i xs)) ++ f (view x)
 mapped_more f view xs i x below is =
-    ap (λ l. concat_map f (map view l)) (take_more xs i x below ∙ ap (λ y. take i xs ++ y ∷ []) (sym is)) ∙ ap (concat_map f) (map-append view (take i xs) (x ∷ [])) ∙ concat_map-snoc f (map view (take i xs)) (view x)
+    ap (λ l. concat_map f (map view l)) (take_more xs i x below ∙ ap (λ y. take i xs ++ y ∷ []) (sym is)) ∙ ap (concat_map f) (map-append view (take i xs) (x ∷ [])) ∙ joined_last f (map view (take i xs)) (view x)

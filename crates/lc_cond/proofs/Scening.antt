@@ -8,14 +8,14 @@ use Rattle.lc_base.specs.declared.ids.ColId.{ColId}
 use Rattle.lc_base.specs.declared.ids.PointId.{PointId}
 use Rattle.lc_term.specs.Syntax.{Term, Column, Formula, Variable, Number}
 use Rattle.lc_table.specs.NodeTables.{Table}
-use Rattle.lc_table.specs.PutNumbers.{columns_at, AreColumns, replacement_at}
+use Rattle.lc_put.specs.PutNumbers.{columns_at, AreColumns, replacement_at}
 use Rattle.lc_term.specs.Said.{put}
 use Rattle.lc_term.specs.Replacement.{replace}
 use Rattle.lc_table.specs.Tables.{Keeps, formula_in, formulas_in, IsFormula, AreFormulas}
 use Rattle.lc_table.specs.declared.node.TermId.{TermId}
 use Rattle.lc_table.specs.declared.node.ColExprId.{ColExprId}
 use Rattle.lc_table.specs.declared.node.FormulaId.{FormulaId}
-use Rattle.lc_table.proofs.ByNumber.{are_columns_later}
+use Rattle.lc_put.proofs.ByNumber.{are_columns_later}
 use Rattle.lc_table.proofs.Later.{are_formulas_still, formulas_still, formula_later, formula_is, formula_has}
 use Rattle.lc_rider.specs.Paths.{edge_variables, Path}
 use Rattle.lc_rider.specs.PathView.{path_in, IsPath, ArePaths, HasPath}

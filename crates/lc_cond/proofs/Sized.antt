@@ -7,14 +7,15 @@ use Rattle.std.proofs.lemmas.List.{length-append, length-map}
 use Rattle.std.proofs.lemmas.List.Folds.{list_any-append}
 use Rattle.std.proofs.lemmas.List.Sums.{sum_by-cons, sum_by-append}
 use Rattle.std.proofs.lemmas.Option.{same_Some}
+use Rattle.lc_lemmas.proofs.Numbers.{equal_to_itself}
+use Rattle.lc_lemmas.proofs.Booleans.{left_true, right_true}
 use Rattle.lc_term.specs.Lists.{Every, IsIn, numbered, concat_map, concat_places}
 use Rattle.lc_term.specs.Syntax.{Term, Variable, Number, Column, Base, Formula, Le, Not}
 use Rattle.lc_term.specs.Replacement.{replacing, replace_term}
 use Rattle.lc_term.specs.Updates.{Update}
 use Rattle.lc_term.specs.Said.{put, after, said, told, term_at, at_client}
 use Rattle.lc_term.specs.SystemColumns.{pend, rep_columns, noted, note_columns, column_count}
-use Rattle.lc_term.proofs.Stores.{Every-append, same_self}
-use Rattle.lc_term.proofs.Tests.{left_true, right_true}
+use Rattle.lc_term.proofs.Stores.{Every-append}
 use Rattle.lc_seq.specs.Specification as Q
 use Rattle.lc_seq.specs.Specification.{Branch, branch_is_resolved, update_is_resolved, operation_is_resolved, chosen}
 use Rattle.lc_seq.specs.Branches.{op_branches, branches_in, arity}
@@ -36,10 +37,11 @@ use Rattle.lc_outline.specs.Sizes.{columns_of, stands, Way, asked_of, mark_way, 
 use Rattle.lc_cond.specs.Counted.{AreCounted}
 use Rattle.lc_cond.proofs.Stored.{and_true, not_either, puts_base, after_base, changed, columns_length, changed_different}
 use Rattle.lc_cond.proofs.Counts.{numbered_length, concat_places_length, total_mapped, total_places, total_each, concat_alike_length, sum_joined}
+use Rattle.lc_outline.proofs.InScope.{list_all_every}
 
 -- ---- each element
 
-every_at : {A : Type 0} (P : A → Type 0) (xs : List A) (k : ℕ) (x : A) → Every P xs → slice_get xs k ≡ Some x → P x
+pub every_at : {A : Type 0} (P : A → Type 0) (xs : List A) (k : ℕ) (x : A) → Every P xs → slice_get xs k ≡ Some x → P x
 every_at P [] k x h e = cc
 every_at P (y ∷ xs) zero x h e = subst P (same_Some y x e) h.0
 every_at P (y ∷ xs) (suc k) x h e = every_at P xs k x h.1 e
@@ -47,11 +49,6 @@ every_at P (y ∷ xs) (suc k) x h e = every_at P xs k x h.1 e
 every_mapped : {A B : Type 0} (P : B → Type 0) (f : A → B) (xs : List A) → Every (λ x. P (f x)) xs → Every P (map f xs)
 every_mapped P f [] h = tt
 every_mapped P f (x ∷ xs) h = (h.0, every_mapped P f xs h.1)
-
--- what passes a test
-passed : {A : Type 0} (P : A → Type 0) (test : A → Bool) → ((x : A) → test x ≡ true → P x) → (xs : List A) → list_all test xs ≡ true → Every P xs
-passed P test f [] h = tt
-passed P test f (x ∷ xs) h = (f x (left_true (test x) (list_all test xs) h), passed P test f xs (right_true (test x) (list_all test xs) h))
 
 every_in : {A : Type 0} (P : A → Type 0) (xs : List A) → Every P xs → (x : A) → IsIn x xs → P x
 every_in P [] h x i = absurd i
@@ -257,7 +254,7 @@ module _ (D : Development) (R : IsResolved D) where
 
   operation_low : (o : Q.Operation) → operation_is_resolved (length D.specification.columns) o ≡ true → AllBranches o.branches
   operation_low o h =
-      passed (λ (b : Branch). AllLow (columns_of b.updates)) (λ (b : Branch). branch_is_resolved (length D.specification.columns) (Q.variables_of o.arguments b) b)
+      list_all_every (λ (b : Branch). AllLow (columns_of b.updates)) (λ (b : Branch). branch_is_resolved (length D.specification.columns) (Q.variables_of o.arguments b) b)
       (λ b. branch_low (Q.variables_of o.arguments b) b) o.branches
       (left_true (list_all (λ (b : Branch). branch_is_resolved (length D.specification.columns) (Q.variables_of o.arguments b) b) o.branches) _ h)
 
@@ -265,7 +262,7 @@ module _ (D : Development) (R : IsResolved D) where
   branches_low q = of (slice_get D.specification.operations q) refl
     where
       all : Every (λ (o : Q.Operation). AllBranches o.branches) D.specification.operations
-      all = passed (λ (o : Q.Operation). AllBranches o.branches) (operation_is_resolved (length D.specification.columns)) (operation_low) D.specification.operations R.specification
+      all = list_all_every (λ (o : Q.Operation). AllBranches o.branches) (operation_is_resolved (length D.specification.columns)) (operation_low) D.specification.operations R.specification
 
       of : (o : Option Q.Operation) → slice_get D.specification.operations q ≡ o → AllBranches (branches_in o)
       of None e = tt
@@ -282,7 +279,7 @@ module _ (D : Development) (R : IsResolved D) where
 
   array_low : (a : O.Array) → is_array D.object a ≡ true → AllLow a.columns
   array_low a h =
-      passed Low (λ c. nat_le (length D.object.abstracts) c && nat_lt (c - length D.object.abstracts) (length D.object.concretes)) array_test a.columns
+      list_all_every Low (λ c. nat_le (length D.object.abstracts) c && nat_lt (c - length D.object.abstracts) (length D.object.concretes)) array_test a.columns
       (right_true (is_width (length a.columns) && are_distinct a.columns) _ h)
 
   arrays_tested : list_all (is_array D.object) D.object.arrays ≡ true
@@ -293,7 +290,7 @@ module _ (D : Development) (R : IsResolved D) where
     where
       of : (a : Option O.Array) → slice_get D.object.arrays k ≡ a → AllLow (columns_in a)
       of None e = tt
-      of (Some a) e = every_at (λ (x : O.Array). AllLow x.columns) D.object.arrays k a (passed (λ (x : O.Array). AllLow x.columns) (is_array D.object) array_low D.object.arrays arrays_tested) e
+      of (Some a) e = every_at (λ (x : O.Array). AllLow x.columns) D.object.arrays k a (list_all_every (λ (x : O.Array). AllLow x.columns) (is_array D.object) array_low D.object.arrays arrays_tested) e
 
   row_low : (cs : List ℕ) (t : Term) (vs : List Term) → AllLow cs → AllLow (columns_of (row_updates cs t vs))
   row_low [] t vs h = tt
@@ -353,7 +350,7 @@ module _ (D : Development) (R : IsResolved D) where
   acted_counted σ cs ts k (Some a) e h low =
       let few = every_at (λ (x : Action). Every (λ (u : Update). u.column < column_count (first_system D)) x.updates) D.actions k a R.actions e in
       ap suc (changed_different σ (post_columns a (Variable 1) ts) cs (columns_of a.updates) (column_count (first_system D)) h
-      (λ c. after_base Base (acting_variables (Variable 1) ts) a.updates c ∙ ap (λ b. b && not (stands c (columns_of a.updates))) (same_self c))
+      (λ c. after_base Base (acting_variables (Variable 1) ts) a.updates c ∙ ap (λ b. b && not (stands c (columns_of a.updates))) (equal_to_itself c))
       (Every-append Low cs (columns_of a.updates) low (every_mapped Low (λ (u : Update). u.column) a.updates few)))
 
   on_counted : (σ : ℕ → Column) (cs : List ℕ) (x : Option On) → ((c : ℕ) → is_base c (σ c) ≡ not (stands c cs)) → AllLow cs → on_size σ x ≡ instance_count (columns_acted D x) cs
@@ -409,7 +406,7 @@ module _ (D : Development) (R : IsResolved D) where
       let ends = ended_columns (first_system D) e.next in
       let start : Fits D base ends (path_start e) base (columns_of e.updates ++ ends) = record {
         asked = omega arith;
-        stores = λ c. ap (λ b. b && not (stands c ends)) (puts_base Base e.updates c ∙ ap (λ b. b && not (stands c (columns_of e.updates))) (same_self c))
+        stores = λ c. ap (λ b. b && not (stands c ends)) (puts_base Base e.updates c ∙ ap (λ b. b && not (stands c (columns_of e.updates))) (equal_to_itself c))
             ∙ not_either (stands c (columns_of e.updates)) (stands c ends) ∙ ap not (sym (list_any-append (λ k. k == c) (columns_of e.updates) ends));
         below = Every-append Low (columns_of e.updates) ends (every_in EdgeLow (edges D.object) (all_low 0 D.object.points) e i) (ended_low e.next);
       } in

@@ -3,6 +3,9 @@ use Rattle.std.proofs.Common.{◌≡◌, ℕ, zero, suc, ◌+◌, ◌<◌, ◌�
 use Rattle.std.proofs.lemmas.Bool.Decides.{nat_tests}
 use Rattle.std.proofs.lemmas.List.{length-append}
 use Rattle.std.proofs.lemmas.List.Folds.{list_any-append}
+use Rattle.std.proofs.lemmas.Bool.{eqb-true}
+use Rattle.lc_lemmas.proofs.Booleans.{and_false}
+use Rattle.lc_lemmas.proofs.Numbers.{swapped_sum, above_from_test}
 use Rattle.lc_term.specs.Lists.{Every}
 use Rattle.lc_term.specs.Syntax.{Term, Column, Store, Formula}
 use Rattle.lc_term.specs.Updates.{Update}
@@ -15,10 +18,6 @@ use Rattle.lc_outline.specs.Sizes.{columns_of, stands, different}
 pub and_true : (b : Bool) → (b && true) ≡ b
 and_true true = refl
 and_true false = refl
-
-pub and_false : (b : Bool) → (b && false) ≡ false
-and_false true = refl
-and_false false = refl
 
 pub not_either : (a b : Bool) → (not a && not b) ≡ not (a || b)
 not_either true b = refl
@@ -103,27 +102,18 @@ here : (s : Bool) (m : ℕ) → 1 + m ≡ absent s + (present s + m)
 here true m = omega arith
 here false m = omega arith
 
-swapped : (a b m : ℕ) → a + (b + m) ≡ b + (a + m)
-swapped a b m = omega arith
-
-same : (m n : ℕ) → (m == n) ≡ true → m ≡ n
-same m n h = grind (arith, nat_tests)
-
-above : (m n : ℕ) → (m == n) ≡ false → n ≤ m → n < m
-above m n h g = grind (arith, nat_tests)
-
 one_more : (z : ℕ) (zs : List ℕ) (c n : ℕ) → c ≤ z → z < c + n → within c n (z ∷ zs) ≡ absent (stands z zs) + within c n zs
 one_more z zs c zero h g = absurd (omega arith)
 one_more z zs c (suc n) h g = by (λ low. one_more z zs (suc c) n low (omega arith)) (z == c) refl
   where
     by : (suc c ≤ z → within (suc c) n (z ∷ zs) ≡ absent (stands z zs) + within (suc c) n zs) → (b : Bool) → (z == c) ≡ b → within c (suc n) (z ∷ zs) ≡ absent (stands z zs) + within c (suc n) zs
     by later true e =
-        ap₂ (λ b m. present (b || stands c zs) + m) e (behind z zs (suc c) n (let eq = same z c e in omega (arith, eq)))
+        ap₂ (λ b m. present (b || stands c zs) + m) e (behind z zs (suc c) n (let eq = eqb-true z c e in omega (arith, eq)))
         ∙ here (stands c zs) (within (suc c) n zs)
-        ∙ ap (λ k. absent (stands k zs) + within c (suc n) zs) (sym (same z c e))
+        ∙ ap (λ k. absent (stands k zs) + within c (suc n) zs) (sym (eqb-true z c e))
     by later false e =
-        ap₂ (λ b m. present (b || stands c zs) + m) e (later (let gt = above z c e h in omega (arith, gt)))
-        ∙ swapped (present (stands c zs)) (absent (stands z zs)) (within (suc c) n zs)
+        ap₂ (λ b m. present (b || stands c zs) + m) e (later (let gt = above_from_test z c e h in omega (arith, gt)))
+        ∙ swapped_sum (present (stands c zs)) (absent (stands z zs)) (within (suc c) n zs)
 
 different_within : (n : ℕ) (zs : List ℕ) → Every (λ c. c < n) zs → within 0 n zs ≡ different zs
 different_within n [] h = none_within 0 n

@@ -1,5 +1,7 @@
 -- The next part of a list that is given part by part.
 use Rattle.std.proofs.Common.{◌≡◌, ℕ, suc, Option, Some, None, List, [], ◌∷◌, ◌++◌, map, option_map, length, slice_get, drop, refl, sym, ap, ◌∙◌}
+use Rattle.std.specs.Prelude.{Vec}
+use Rattle.std.specs.declared.alloc.Global.{Global}
 use Rattle.lc_term.specs.Lists.{concat_map}
 use Rattle.lc_table.specs.NodeTables.{Table}
 use Rattle.lc_outline.specs.Development.{Development}
@@ -8,7 +10,9 @@ use Rattle.lc_cond.specs.Conditions.{conditions_in}
 use Rattle.lc_cond.specs.ConditionView.{condition_in, AreConditions}
 use Rattle.lc_cond.specs.Adding.{Adds}
 use Rattle.lc_cond.specs.PartView.{part_of}
+use Rattle.lc_cond.specs.Stream.{IsNextPart, IsEnd}
 use Rattle.lc_cond.specs.declared.part.Part.{Part}
+use Rattle.lc_cond.specs.declared.stream.ConditionStream.{ConditionStream}
 use Rattle.lc_cond.specs.declared.condition.Condition.{Condition}
 use Rattle.lc_cond.proofs.Adding.{adds_to_none}
 use Rattle.lc_cond.proofs.Parted.{drop_one, drop_past}
@@ -35,3 +39,9 @@ none_left D ps k at =
 pub no_part_read : (o : Option Part) (s : Option S.Part) → ((p : Part) → o ≡ Some p → ⊥) → option_map part_of o ≡ s → s ≡ None
 no_part_read None s h e = sym e
 no_part_read (Some p) s h e = absurd (h p refl)
+
+-- if no part is given, nothing is left
+pub no_part_ends : (d : Development) (ts : Table) (before after : ConditionStream) (part : Option (Vec Condition Global)) → ((cs : Vec Condition Global) → part ≡ Some cs → ⊥) → IsNextPart d ts before after part
+    → IsEnd d before after
+no_part_ends d ts before after None none next = next
+no_part_ends d ts before after (Some cs) none next = absurd (none cs refl)

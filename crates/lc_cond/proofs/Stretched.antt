@@ -4,6 +4,7 @@ use Rattle.std.specs.Prelude.{min}
 use Rattle.std.proofs.Math.Nat.{lt-div-mul-add, div-mul-le_self, mul-le-mul_right, suc-mul, add-mul}
 use Rattle.std.proofs.Math.Seq.{take-length}
 use Rattle.std.proofs.lemmas.List.{length-drop, length-map, length-take-le, take-append-drop, drop-map}
+use Rattle.lc_lemmas.proofs.Lists.{kept_left}
 use Rattle.lc_base.specs.Limits.{condition_limit}
 use Rattle.lc_term.specs.Lists.{Every, numbered, concat_places}
 use Rattle.lc_term.specs.Syntax.{Formula}
@@ -22,8 +23,8 @@ use Rattle.lc_cond.specs.Stretches.{IsWithin, stretch_of, stable_from, stable_st
 use Rattle.lc_cond.specs.declared.condition.Condition.{Condition}
 use Rattle.lc_cond.specs.declared.stretch.Stretch.{Stretch}
 use Rattle.lc_cond.proofs.Adding.{first_formulas}
-use Rattle.lc_cond.proofs.Elements.{Every-take}
 use Rattle.lc_cond.proofs.Sized.{stable_from_length, stable_length}
+use Rattle.lc_term.proofs.Lists.{Every-take}
 
 -- ---- the stretch that has a place
 
@@ -68,11 +69,6 @@ places_both f k (x ∷ xs) ys =
     ap (λ l. f k x ++ l) (places_both f (suc k) xs ys ∙ ap (λ n. concat_places f (suc k) xs ++ concat_places f n ys) e)
     ∙ sym (append_assoc (f k x) (concat_places f (suc k) xs) (concat_places f (k + length (x ∷ xs)) ys))
 
-pub stands_ahead : {A : Type 0} (xs ys : List A) (j : ℕ) (x : A) → slice_get xs j ≡ Some x → slice_get (xs ++ ys) j ≡ Some x
-stands_ahead [] ys j x h = cc
-stands_ahead (y ∷ xs) ys zero x h = h
-stands_ahead (y ∷ xs) ys (suc j) x h = stands_ahead xs ys j x h
-
 pub stands_behind : {A : Type 0} (xs ys : List A) (j : ℕ) (x : A) → slice_get ys j ≡ Some x → slice_get (xs ++ ys) (length xs + j) ≡ Some x
 stands_behind [] ys j x h = (let e : 0 + j ≡ j = omega arith in ap (slice_get ys) e ∙ h)
 stands_behind (y ∷ xs) ys j x h = (let e : suc (length xs) + j ≡ suc (length xs + j) = omega arith in ap (slice_get (y ∷ (xs ++ ys))) e ∙ stands_behind xs ys j x h)
@@ -98,7 +94,7 @@ module _ {A : Type 0} (xs : List A) (s : Stretch) (h : IsWithin (length xs) s) w
         let all = ap (concat_places f 0) split ∙ places_both f 0 before (stretch_of s xs ++ rest)
         ∙ ap (λ n. concat_places f 0 before ++ concat_places f n (stretch_of s xs ++ rest)) place
         ∙ ap (λ l. concat_places f 0 before ++ l) (places_both f s.from (stretch_of s xs) rest) in
-        let there = stands_behind (concat_places f 0 before) _ j x (stands_ahead (concat_places f s.from (stretch_of s xs)) (concat_places f (s.from + length (stretch_of s xs)) rest) j x at) in
+        let there = stands_behind (concat_places f 0 before) _ j x (kept_left (concat_places f s.from (stretch_of s xs)) (concat_places f (s.from + length (stretch_of s xs)) rest) j x at) in
         ap (λ l. slice_get l (s.from * each + j)) all ∙ subst (λ n. slice_get (concat_places f 0 before ++ (concat_places f s.from (stretch_of s xs) ++ concat_places f (s.from + length (stretch_of s xs)) rest)) (n + j) ≡ Some x) size there
 
     stretch_ends : s.from * each + length (concat_places f s.from (stretch_of s xs)) ≡ s.to * each

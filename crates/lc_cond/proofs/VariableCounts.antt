@@ -1,15 +1,14 @@
 -- Each condition of a resolved development has few variables.
-use Rattle.std.proofs.Common.{◌≡◌, ℕ, zero, suc, ◌+◌, ◌≤◌, ◌&&◌, Bool, true, false, if◌then◌else◌, List, [], ◌∷◌, ◌++◌, map, length, Option, Some, None, refl, subst, arith}
+use Rattle.std.proofs.Common.{◌≡◌, ℕ, zero, suc, ◌+◌, ◌≤◌, ◌&&◌, Bool, true, false, if◌then◌else◌, List, [], ◌∷◌, ◌++◌, map, length, Option, Some, None, refl, arith}
 use Rattle.std.specs.Prelude.{slice_get, nat_le}
 use Rattle.std.proofs.lemmas.Bool.Decides.{nat_tests}
-use Rattle.std.proofs.lemmas.Option.{same_Some}
-use Rattle.lc_base.specs.Limits.{local_limit}
+use Rattle.lc_lemmas.proofs.Booleans.{left_true, right_true}
+use Rattle.lc_base.specs.Limits.{local_limit, argument_limit, parameter_limit, reply_limit}
 use Rattle.lc_term.specs.Lists.{Every, numbered, concat_map, concat_places}
 use Rattle.lc_term.specs.Syntax.{Term, Column, Formula, Variable}
 use Rattle.lc_term.specs.Said.{told}
 use Rattle.lc_term.specs.SystemColumns.{column_count}
 use Rattle.lc_term.proofs.Stores.{Every-append, Every-map}
-use Rattle.lc_term.proofs.Tests.{left_true, right_true}
 use Rattle.lc_object.specs.Syntax.{Operation, Point, Object}
 use Rattle.lc_object.specs.Edges.{Edge, edges}
 use Rattle.lc_object.specs.WellFormed.{variable_count, has_limits, is_first, are_operations}
@@ -23,16 +22,14 @@ use Rattle.lc_cond.specs.Conditions.{range, idle_frame, body_frame, start_formul
 use Rattle.lc_cond.specs.Conditions.{at_end, reply_goals, is_base, same_column, column_condition, column_conditions, action_conditions, on_conditions, duty_condition, path_conditions, body_hypotheses}
 use Rattle.lc_cond.specs.Conditions.{edge_conditions_in, edge_conditions, stable_under, stable_conditions, point_stability}
 use Rattle.lc_cond.specs.VariableCounts.{HasFewVariables, AllHaveFewVariables}
+use Rattle.lc_cond.proofs.Elements.{Every-places}
+use Rattle.lc_cond.proofs.Sized.{every_at}
 
 -- ---- lists
 
 every_places : {A B : Type 0} (Q : B → Type 0) (f : ℕ → A → List B) (k : ℕ) (xs : List A) → ((j : ℕ) (x : A) → Every Q (f j x)) → Every Q (concat_places f k xs)
 every_places Q f k [] h = tt
 every_places Q f k (x ∷ xs) h = Every-append Q (f k x) (concat_places f (suc k) xs) (h k x) (every_places Q f (suc k) xs h)
-
-every_place_of : {A B : Type 0} (P : A → Type 0) (Q : B → Type 0) (f : ℕ → A → List B) (k : ℕ) (xs : List A) → ((j : ℕ) (x : A) → P x → Every Q (f j x)) → Every P xs → Every Q (concat_places f k xs)
-every_place_of P Q f k [] h g = tt
-every_place_of P Q f k (x ∷ xs) h g = Every-append Q (f k x) (concat_places f (suc k) xs) (h k x g.0) (every_place_of P Q f (suc k) xs h g.1)
 
 every_each : {A B : Type 0} (Q : B → Type 0) (f : A → List B) (xs : List A) → ((x : A) → Every Q (f x)) → Every Q (concat_map f xs)
 every_each Q f [] h = tt
@@ -42,11 +39,6 @@ every_numbered : {A B : Type 0} (P : A → Type 0) (Q : B → Type 0) (f : ℕ �
 every_numbered P Q f k [] h g = tt
 every_numbered P Q f k (x ∷ xs) h g = (h k x g.0, every_numbered P Q f (suc k) xs h g.1)
 
-found_at : {A : Type 0} (P : A → Type 0) (xs : List A) (k : ℕ) (x : A) → Every P xs → slice_get xs k ≡ Some x → P x
-found_at P [] k x h e = absurd cc
-found_at P (y ∷ ys) zero x h e = subst P (same_Some y x e) h.0
-found_at P (y ∷ ys) (suc k) x h e = found_at P ys k x h.1 e
-
 -- ---- operations and actions
 
 abbrev IsSmall : Operation → Type 0
@@ -54,10 +46,10 @@ IsSmall o = variable_count o ≤ 21
 
 small : (o : Operation) → has_limits o ≡ true → IsSmall o
 small o h =
-    let two = left_true (nat_le (length o.arguments) 3 && nat_le o.replies 3) (nat_le (length o.locals) local_limit) h in
-    let a = left_true (nat_le (length o.arguments) 3) (nat_le o.replies 3) two in
-    let b = right_true (nat_le (length o.arguments) 3 && nat_le o.replies 3) (nat_le (length o.locals) local_limit) h in
-    let arguments : length o.arguments ≤ 3 = grind (arith, nat_tests) in
+    let two = left_true (nat_le (length o.arguments) argument_limit && nat_le o.replies reply_limit) (nat_le (length o.locals) local_limit) h in
+    let a = left_true (nat_le (length o.arguments) argument_limit) (nat_le o.replies reply_limit) two in
+    let b = right_true (nat_le (length o.arguments) argument_limit && nat_le o.replies reply_limit) (nat_le (length o.locals) local_limit) h in
+    let arguments : length o.arguments ≤ argument_limit = grind (arith, nat_tests) in
     let locals : length o.locals ≤ local_limit = grind (arith, nat_tests) in
     omega (arith, arguments, locals)
 
@@ -74,7 +66,7 @@ TakesFew a = length a.parameters ≤ 4
 all_take_few : (D : Development) → IsResolved D → Every TakesFew (all_actions D)
 all_take_few D X =
     Every-append TakesFew D.actions (enter (first_system D) ∷ leave (first_system D) ∷ [])
-    (Every-map (λ (a : Action). length a.parameters ≤ 3) TakesFew D.actions (λ a h. omega (arith, h)) X.parameters) (omega arith, (omega arith, tt))
+    (Every-map (λ (a : Action). length a.parameters ≤ parameter_limit) TakesFew D.actions (λ a h. omega (arith, h)) X.parameters) (omega arith, (omega arith, tt))
 
 -- ---- conditions that share their head
 
@@ -139,7 +131,7 @@ module _ (D : Development) (X : IsResolved D) where
   operations_small = all_small D.object 0 D.object.operations (operations_pass D.object X.object)
 
   small_at : (k : ℕ) (o : Operation) → slice_get D.object.operations k ≡ Some o → IsSmall o
-  small_at k o is = found_at IsSmall D.object.operations k o operations_small is
+  small_at k o is = every_at IsSmall D.object.operations k o operations_small is
 
   edge_in_few : (o : ℕ) (operation : Operation) (e : Edge) → IsSmall operation → Every HasFewVariables (edge_conditions_in D o operation e)
   edge_in_few o operation e h =
@@ -179,7 +171,7 @@ module _ (D : Development) (X : IsResolved D) where
   pub have_few_variables : AllHaveFewVariables D
   have_few_variables =
       Every-append HasFewVariables (start_conditions D) _ (start_few D)
-      (Every-append HasFewVariables (concat_places (entry_conditions D) 0 D.object.operations) _ (every_place_of IsSmall HasFewVariables (entry_conditions D) 0 D.object.operations (entry_few D) operations_small)
+      (Every-append HasFewVariables (concat_places (entry_conditions D) 0 D.object.operations) _ (Every-places IsSmall HasFewVariables (entry_conditions D) 0 D.object.operations (entry_few D) operations_small)
       (Every-append HasFewVariables (concat_map (edge_conditions D) (edges D.object)) _ (every_each HasFewVariables (edge_conditions D) (edges D.object) edge_few)
       (Every-append HasFewVariables (concat_places (point_stability D) 0 D.object.points) _ (every_places HasFewVariables (point_stability D) 0 D.object.points point_few)
       (stability_few None 2 (idle_frame (first_system D)) D.idle (omega arith)))))

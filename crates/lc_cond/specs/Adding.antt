@@ -1,7 +1,7 @@
 -- Formulas, terms, columns and conditions that the code has by their numbers, and adds to those that it has.
 use Rattle.std.specs.Prelude.{◌≡◌, ℕ, List, ◌++◌, map}
 use Rattle.lc_base.specs.declared.ids.ColId.{ColId}
-use Rattle.lc_table.specs.PutNumbers.{columns_at, AreColumns, terms_in, AreTerms}
+use Rattle.lc_put.specs.PutNumbers.{columns_at, AreColumns, terms_in, AreTerms}
 use Rattle.lc_term.specs.Syntax.{Term, Column, Formula}
 use Rattle.lc_table.specs.NodeTables.{Table}
 use Rattle.lc_table.specs.Tables.{formulas_in, AreFormulas}

@@ -3,7 +3,7 @@ use Rattle.std.specs.Prelude.{◌≡◌, ℕ, List, [], ◌∷◌, ◌++◌, map
 use Rattle.lc_term.specs.Syntax.{Term, Variable, Column, Formula}
 use Rattle.lc_term.specs.Said.{told}
 use Rattle.lc_table.specs.NodeTables.{Table}
-use Rattle.lc_table.specs.PutNumbers.{AreColumns}
+use Rattle.lc_put.specs.PutNumbers.{AreColumns}
 use Rattle.lc_table.specs.Tables.{formulas_in, AreFormulas, HasFormula}
 use Rattle.lc_table.specs.declared.node.FormulaId.{FormulaId}
 use Rattle.lc_object.specs.Syntax.{Operation}

@@ -1,6 +1,6 @@
 //! What columns hold after updates, store by store by the numbers of a table, so that no tree of the stores is made.
 ghost use Rattle.std.specs.Prelude.{◌≡◌, map, IfOk, OnOk};
-ghost use Rattle.lc_table.specs.PutNumbers.{columns_at, AreColumns};
+ghost use Rattle.lc_put.specs.PutNumbers.{columns_at, AreColumns};
 ghost use Rattle.lc_table.specs.Tables.{HasTerm, Keeps};
 ghost use Rattle.lc_term.specs.Replacement.{replacing, replace_term};
 ghost use Rattle.lc_term.specs.Said.{after, put, said, term_at};

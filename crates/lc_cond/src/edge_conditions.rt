@@ -1,6 +1,6 @@
 //! The conditions of an edge, path by path.
 ghost use Rattle.std.specs.Prelude.{◌≡◌, ◌++◌, pos, Some, IfOk, OnOk};
-ghost use Rattle.lc_table.specs.PutNumbers.{AreColumns};
+ghost use Rattle.lc_put.specs.PutNumbers.{AreColumns};
 ghost use Rattle.lc_term.specs.Said.{put};
 ghost use Rattle.lc_term.specs.Syntax.{Variable, Number};
 ghost use Rattle.lc_term.specs.SystemColumns.{pend};
@@ -17,8 +17,9 @@ use crate::scene::Scene;
 use crate::telling::push_both_told;
 use lc_base::{ColId, OutOfMemory};
 use lc_kernel::Hypotheses;
+use lc_put::{PutNumbers, nothing_replaced, put_in_formula};
 use lc_rider::{Duty, Path, store_in};
-use lc_table::{ColExprId, FormulaId, PutNumbers, Terms, nothing_replaced};
+use lc_table::{ColExprId, FormulaId, Terms};
 use std::alloc::Global;
 
 /// What a path of an edge comes to: its place among those of the edge, what the columns hold after it, and what is known
@@ -111,7 +112,7 @@ pub(crate) fn push_reply(
         variables: &scene.variables,
     };
     let mut done = nothing_replaced(alloc);
-    let goal = terms.put_in_formula(alloc, put, &mut done, reply)?;
+    let goal = put_in_formula(terms, alloc, put, &mut done, reply)?;
     let head = on_path(scene, Kind::Reply, outcome.number);
     push_one(head, Which::Alone, outcome.known, goal, conditions)
 }

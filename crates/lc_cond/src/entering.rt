@@ -7,12 +7,13 @@ ghost use Rattle.lc_term.specs.View.{formulas_of};
 ghost use Rattle.lc_tie.specs.Tie as T;
 ghost use Rattle.lc_tie.specs.TieView.{conjuncts_in, conjunct_of};
 ghost use Rattle.lc_cond.specs.Adding.{HasFormulas};
-ghost use Rattle.lc_table.specs.Put.{Remembers, replacement_of};
-ghost use Rattle.lc_table.specs.PutNumbers.{AreColumns, AreTerms, replacement_at};
+ghost use Rattle.lc_put.specs.Put.{Remembers, replacement_of};
+ghost use Rattle.lc_put.specs.PutNumbers.{AreColumns, AreTerms, replacement_at};
 ghost use Rattle.lc_cond.specs.Heads.{Tells};
 
 use lc_base::OutOfMemory;
-use lc_table::{FormulaId, Put, PutNumbers, ReplacedNodes, Terms};
+use lc_put::{Put, PutNumbers, ReplacedNodes, put_in_formula, replace};
+use lc_table::{FormulaId, Terms};
 use lc_term::Formula;
 use lc_tie::{Conjunct, Tie};
 use std::alloc::Global;
@@ -100,7 +101,7 @@ pub(crate) fn told(
 {
     let mut numbers = Vec::with_capacity(alloc, formulas.len())?;
     for formula in formulas {
-        numbers.push(terms.replace(alloc, put, done, *formula)?)?;
+        numbers.push(replace(terms, alloc, put, done, *formula)?)?;
     }
     Ok(numbers)
 }
@@ -123,7 +124,7 @@ pub(crate) fn told_by_number(
 {
     let mut numbers = Vec::with_capacity(alloc, formulas.len())?;
     for formula in formulas {
-        numbers.push(terms.put_in_formula(alloc, put, done, *formula)?)?;
+        numbers.push(put_in_formula(terms, alloc, put, done, *formula)?)?;
     }
     Ok(numbers)
 }

@@ -2,7 +2,7 @@
 ghost use Rattle.std.specs.Prelude.{◌≡◌, ◌++◌, true, map, None, Some, IfOk, OnOk};
 ghost use Rattle.lc_term.specs.Said.{after, told};
 ghost use Rattle.lc_term.specs.Syntax.{Base};
-ghost use Rattle.lc_table.specs.PutNumbers.{AreColumns};
+ghost use Rattle.lc_put.specs.PutNumbers.{AreColumns};
 ghost use Rattle.lc_table.specs.Tables.{Keeps};
 ghost use Rattle.lc_action.specs.Action.{enter};
 ghost use Rattle.lc_action.specs.ActionView.{first_of};
@@ -27,7 +27,8 @@ use lc_base::{ColId, OpId, OutOfMemory};
 use lc_kernel::Hypotheses;
 use lc_object::Operation;
 use lc_outline::Development;
-use lc_table::{ColExprId, FormulaId, PutNumbers, TermId, Terms};
+use lc_put::{PutNumbers, enter_terms};
+use lc_table::{ColExprId, FormulaId, TermId, Terms};
 use std::alloc::Global;
 
 // What the conditions of a kind share that are asked when a call of this operation begins.
@@ -70,7 +71,7 @@ fn entered_variables(
     ensures kept { Keeps terms.old terms.new }
 {
     let variables = entry_variables(alloc, body)?;
-    terms.enter_terms(alloc, &variables)
+    enter_terms(terms, alloc, &variables)
 }
 
 // The conditions when a call of this operation begins, in these columns, with the invariant entered already.

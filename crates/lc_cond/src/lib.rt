@@ -25,7 +25,6 @@ mod telling;
 mod variables;
 
 pub use condition::{Condition, Kind, Passage, Place, Which};
-pub use list::conditions;
 pub use lookup::on_at;
 pub use numbering::{NumberedPart, Numbering};
-pub use stream::ConditionStream;
+pub use stream::{ConditionStream, conditions};

@@ -1,6 +1,5 @@
-//! The list of the conditions of a development.
-ghost use Rattle.std.specs.Prelude.{◌≡◌, ◌++◌, [], true, length, map, Some, None, IfOk, OnOk};
-ghost use Rattle.lc_term.specs.Lists.{concat_map, concat_places};
+//! What is asserted stays, at points and of idle clients; and what parts of the list of conditions there are.
+ghost use Rattle.std.specs.Prelude.{◌≡◌, true, length, map, Some, None, IfOk, OnOk};
 ghost use Rattle.lc_table.specs.Tables.{Keeps};
 ghost use Rattle.lc_object.specs.EdgeView.{edge_of};
 ghost use Rattle.lc_object.specs.Edges.{edges};
@@ -9,19 +8,15 @@ ghost use Rattle.lc_object.specs.WellFormed.{has_limits, variable_count};
 ghost use Rattle.lc_outline.specs.Development.{asserts_at, first_system};
 ghost use Rattle.lc_outline.specs.DevelopmentView.{development_view};
 ghost use Rattle.lc_cond.specs.Adding.{Adds};
-ghost use Rattle.lc_cond.specs.Conditions.{body_frame, entry_conditions, edge_conditions, point_stability, idle_stability, conditions};
-ghost use Rattle.lc_cond.specs.ConditionView.{condition_in, AreConditions};
+ghost use Rattle.lc_cond.specs.Conditions.{body_frame, point_stability, idle_stability};
 ghost use Rattle.lc_cond.specs.Stretches.{IsWithin, stable_stretch, point_stretch, idle_stretch};
 
 use crate::condition::Condition;
-use crate::entries::push_entry;
 use crate::known::{body_frame, idle_frame};
 use crate::lookup::{
     argument_count, asserts_at, idle_of, operation_at, system_columns, variable_count,
 };
-use crate::paths::push_edge;
 use crate::stability::{Asserted, push_stable};
-use crate::start::push_start;
 use crate::stretch::{Stretch, all_of};
 use lc_base::{OpId, OutOfMemory, PointId};
 use lc_object::{Edge, Operation, Point, edges};
@@ -48,55 +43,6 @@ pub(crate) fn edges_of(alloc: Global, development: &Development) -> Result<Vec<E
     ensures { IfOk result (λ es. map edge_of es.items ≡ edges (development_view development.now).object) }
 {
     edges(alloc, &development.parts().object)
-}
-
-// The conditions that are asked when calls begin, operation by operation.
-fn push_entries(
-    alloc: Global,
-    terms: &mut Terms,
-    development: &Development,
-    conditions: &mut Vec<Condition>,
-) -> Result<(), OutOfMemory>
-    ensures list { let d = development_view development.now in
-        OnOk result (Adds conditions.old.items terms.new conditions.new.items (concat_places (entry_conditions d) 0 d.object.operations)) }
-    ensures kept { Keeps terms.old terms.new }
-{
-    for (number, body) in operations_of(development).iter().enumerate() {
-        let operation = OpId(number as u32);
-        push_entry(alloc, terms, development, operation, body, conditions)?;
-    }
-    Ok(())
-}
-
-// The conditions of the edges, edge by edge.
-fn push_each_edge(
-    alloc: Global,
-    terms: &mut Terms,
-    development: &Development,
-    edges: &[Edge],
-    conditions: &mut Vec<Condition>,
-) -> Result<(), OutOfMemory>
-    ensures list { OnOk result (Adds conditions.old.items terms.new conditions.new.items (concat_map (edge_conditions (development_view development.now)) (map edge_of edges.now))) }
-    ensures kept { Keeps terms.old terms.new }
-{
-    for edge in edges {
-        push_edge(alloc, terms, development, edge, conditions)?;
-    }
-    Ok(())
-}
-
-fn push_edges(
-    alloc: Global,
-    terms: &mut Terms,
-    development: &Development,
-    conditions: &mut Vec<Condition>,
-) -> Result<(), OutOfMemory>
-    ensures list { let d = development_view development.now in
-        OnOk result (Adds conditions.old.items terms.new conditions.new.items (concat_map (edge_conditions d) (edges d.object))) }
-    ensures kept { Keeps terms.old terms.new }
-{
-    let edges = edges_of(alloc, development)?;
-    push_each_edge(alloc, terms, development, &edges, conditions)
 }
 
 // The conjuncts at a point of this operation's body stay which are asked about.
@@ -183,24 +129,6 @@ pub(crate) fn push_point(
     push_point_stretch(alloc, terms, development, number, point, all, conditions)
 }
 
-// The assertions at the points stay, point by point.
-fn push_points(
-    alloc: Global,
-    terms: &mut Terms,
-    development: &Development,
-    conditions: &mut Vec<Condition>,
-) -> Result<(), OutOfMemory>
-    ensures list { let d = development_view development.now in
-        OnOk result (Adds conditions.old.items terms.new conditions.new.items (concat_places (point_stability d) 0 d.object.points)) }
-    ensures kept { Keeps terms.old terms.new }
-{
-    for (number, point) in points_of(development).iter().enumerate() {
-        let number = PointId(number as u32);
-        push_point(alloc, terms, development, number, point, conditions)?;
-    }
-    Ok(())
-}
-
 /// The conjuncts that hold of idle clients stay which are asked about.
 #[tactic(auto, using(lc_table::proofs::Later::kept_on))]
 pub(crate) fn push_idle_stretch(
@@ -244,41 +172,4 @@ pub(crate) fn push_idle(
 {
     let all = all_of(idle_of(development).len());
     push_idle_stretch(alloc, terms, development, all, conditions)
-}
-
-// The conditions of the edges, and that what is asserted stays.
-#[tactic(auto, using(lc_table::proofs::Later::kept_on))]
-fn push_code(
-    alloc: Global,
-    terms: &mut Terms,
-    development: &Development,
-    conditions: &mut Vec<Condition>,
-) -> Result<(), OutOfMemory>
-    ensures list { let d = development_view development.now in
-        OnOk result (Adds conditions.old.items terms.new conditions.new.items
-        (concat_map (edge_conditions d) (edges d.object) ++ (concat_places (point_stability d) 0 d.object.points ++ idle_stability d))) }
-    ensures kept { Keeps terms.old terms.new }
-{
-    push_edges(alloc, terms, development, conditions)?;
-    push_points(alloc, terms, development, conditions)?;
-    push_idle(alloc, terms, development, conditions)
-}
-
-/// The conditions of a development, in their order: if all of them are valid, its object is linearizable. Their formulas
-/// are entered in the table.
-#[tactic(auto, using(lc_table::proofs::Later::kept_on))]
-pub fn conditions(
-    alloc: Global,
-    terms: &mut Terms,
-    development: &Development,
-) -> Result<Vec<Condition>, OutOfMemory>
-    ensures are { IfOk result (λ cs. AreConditions terms.new cs.items) }
-    ensures list { IfOk result (λ cs. map (condition_in terms.new) cs.items ≡ conditions (development_view development.now)) }
-    ensures kept { Keeps terms.old terms.new }
-{
-    let mut list = Vec::new(alloc);
-    push_start(alloc, terms, development, &mut list)?;
-    push_entries(alloc, terms, development, &mut list)?;
-    push_code(alloc, terms, development, &mut list)?;
-    Ok(list)
 }

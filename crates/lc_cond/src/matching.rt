@@ -1,7 +1,7 @@
 //! The conditions that an edge is the action beside it.
 ghost use Rattle.std.specs.Prelude.{◌≡◌, ◌≤◌, ◌^◌, ◌&&◌, [], ◌∷◌, List, true, map, option_map, if◌then◌else◌, Some, IfOk, OnOk};
 ghost use Rattle.lc_table.specs.NodeTables.{Table};
-ghost use Rattle.lc_table.specs.PutNumbers.{columns_at, AreColumns};
+ghost use Rattle.lc_put.specs.PutNumbers.{columns_at, AreColumns};
 ghost use Rattle.lc_term.specs.Replacement.{raising, replace_column};
 ghost use Rattle.lc_term.specs.Syntax as T;
 ghost use Rattle.lc_term.specs.Syntax.{Variable, Bound, Read, Base};
@@ -26,9 +26,10 @@ use lc_action::{Action, SystemColumns};
 use lc_base::{ColId, OutOfMemory};
 use lc_kernel::Hypotheses;
 use lc_outline::{Development, On};
-use lc_table::{
-    ColExprId, FormulaId, Put, PutColumns, PutVariables, TermId, TermNode, Terms, nothing_replaced,
+use lc_put::{
+    Put, PutColumns, PutVariables, nothing_replaced, raise_column, replace, stored_column,
 };
+use lc_table::{ColExprId, FormulaId, TermId, TermNode, Terms};
 use lc_term::Term;
 use std::alloc::Global;
 
@@ -75,7 +76,7 @@ fn raised_cell(alloc: Global, terms: &mut Terms, column: ColExprId) -> Result<Te
     ensures id { IfOk result (λ k. HasTerm terms.new k (Read (replace_column raising (column_in terms.old column)) (Bound 0))) }
     ensures kept { Keeps terms.old terms.new }
 {
-    let raised = terms.raise_column(alloc, column)?;
+    let raised = raise_column(terms, alloc, column)?;
     let index = terms.bound(0)?;
     terms.read(raised, index)
 }
@@ -166,8 +167,8 @@ fn push_column(
     if are_absent(columns, action, column) {
         return Ok(());
     }
-    let left = terms.stored_column(columns, column)?;
-    let right = terms.stored_column(action, column)?;
+    let left = stored_column(terms, columns, column)?;
+    let right = stored_column(terms, action, column)?;
     push_sides(alloc, terms, head, known, column, left, right, conditions)
 }
 
@@ -240,7 +241,7 @@ pub(crate) fn entered_guard(
     };
     let guard = terms.enter_formula(alloc, &action.guard)?;
     let mut done = nothing_replaced(alloc);
-    terms.replace(alloc, &put, &mut done, guard)
+    replace(terms, alloc, &put, &mut done, guard)
 }
 
 /// The columns after an action of the client that is this variable with these arguments, entered.

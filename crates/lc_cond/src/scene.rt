@@ -24,6 +24,7 @@ use lc_action::SystemColumns;
 use lc_base::{OpId, OutOfMemory};
 use lc_object::{Edge, Facts, Operation};
 use lc_outline::{Development, On};
+use lc_put::enter_terms;
 use lc_rider::edge_variables;
 use lc_table::{FormulaId, TermId, Terms};
 use lc_term::Formula;
@@ -78,7 +79,7 @@ fn entered_variables(
     ensures kept { Keeps terms.old terms.new }
 {
     let variables = edge_variables(alloc, count, code)?;
-    terms.enter_terms(alloc, &variables)
+    enter_terms(terms, alloc, &variables)
 }
 
 // What a return of these replies asks for, entered; nothing if a point is reached.

@@ -4,7 +4,7 @@ ghost use Rattle.lc_base.specs.Limits.{condition_limit};
 ghost use Rattle.lc_term.specs.Lists.{Every};
 ghost use Rattle.lc_term.specs.Replacement.{replace, replacing};
 ghost use Rattle.lc_term.specs.Syntax.{Variable};
-ghost use Rattle.lc_table.specs.PutNumbers.{AreColumns, AreTerms};
+ghost use Rattle.lc_put.specs.PutNumbers.{AreColumns, AreTerms};
 ghost use Rattle.lc_table.specs.Tables.{formulas_in, AreFormulas, Keeps};
 ghost use Rattle.lc_term.specs.View.{term_of, formulas_of};
 ghost use Rattle.lc_action.specs.Action.{post_columns};
@@ -30,7 +30,8 @@ use lc_action::{Action, SystemColumns, enter, leave};
 use lc_base::{ARGUMENT_LIMIT, ColId, LOCAL_LIMIT, OutOfMemory, PointId};
 use lc_kernel::Hypotheses;
 use lc_outline::Development;
-use lc_table::{ColExprId, FormulaId, PutNumbers, TermId, Terms, nothing_replaced};
+use lc_put::{PutNumbers, enter_terms, nothing_replaced};
+use lc_table::{ColExprId, FormulaId, TermId, Terms};
 use lc_term::{Formula, Term};
 use std::alloc::Global;
 
@@ -200,7 +201,7 @@ fn code_variables(alloc: Global, terms: &mut Terms) -> Result<Vec<TermId>, OutOf
     ensures kept { Keeps terms.old terms.new }
 {
     let variables = variables_from(alloc, 0, CODE_VARIABLE_LIMIT)?;
-    terms.enter_terms(alloc, &variables)
+    enter_terms(terms, alloc, &variables)
 }
 
 // Two clients, entered.

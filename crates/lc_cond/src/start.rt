@@ -1,6 +1,6 @@
 //! The conditions at the start.
 ghost use Rattle.std.specs.Prelude.{◌≡◌, [], ◌∷◌, map, pos, None, IfOk, OnOk};
-ghost use Rattle.lc_table.specs.Put.{column_by_number};
+ghost use Rattle.lc_put.specs.Put.{column_by_number};
 ghost use Rattle.lc_term.specs.Replacement.{replace, replacing};
 ghost use Rattle.lc_term.specs.Syntax.{Number, Variable, Le};
 ghost use Rattle.lc_table.specs.Tables.{Keeps};
@@ -20,7 +20,8 @@ use crate::telling::push_all_told;
 use lc_base::OutOfMemory;
 use lc_kernel::Hypotheses;
 use lc_outline::Development;
-use lc_table::{FormulaId, Put, PutColumns, PutVariables, Terms};
+use lc_put::{Put, PutColumns, PutVariables};
+use lc_table::{FormulaId, Terms};
 use lc_term::{ColExpr, Formula, Term};
 use std::alloc::Global;
 

@@ -1,5 +1,9 @@
 //! The list of the conditions of a development, part by part.
-ghost use Rattle.std.specs.Prelude.{◌≤◌, ◌*◌, length};
+ghost use Rattle.std.specs.Prelude.{◌≡◌, ◌≤◌, ◌*◌, length, map, IfOk};
+ghost use Rattle.lc_table.specs.Tables.{Keeps};
+ghost use Rattle.lc_outline.specs.DevelopmentView.{development_view};
+ghost use Rattle.lc_cond.specs.Conditions.{conditions};
+ghost use Rattle.lc_cond.specs.ConditionView.{condition_in, AreConditions};
 ghost use Rattle.lc_cond.specs.PartLimits.{edge_limit, part_limit, part_size_limit};
 
 use crate::condition::Condition;
@@ -76,5 +80,27 @@ impl ConditionStream {
         self.place += 1;
         self.given += conditions.len() as u64;
         Ok(Some(conditions))
+    }
+}
+
+/// The conditions of a development, in their order: if all of them are valid, its object is linearizable. Their formulas
+/// are entered in the table.
+#[tactic(auto, using(lc_table::proofs::Later::kept_on))]
+pub fn conditions(
+    alloc: Global,
+    terms: &mut Terms,
+    development: &Development,
+) -> Result<Vec<Condition>, OutOfMemory>
+    ensures are { IfOk result (λ cs. AreConditions terms.new cs.items) }
+    ensures list { IfOk result (λ cs. map (condition_in terms.new) cs.items ≡ conditions (development_view development.now)) }
+    ensures kept { Keeps terms.old terms.new }
+{
+    let mut stream = ConditionStream::new(alloc, development)?;
+    let mut list = Vec::new(alloc);
+    'parts: loop {
+        let Some(mut part) = stream.next_part(development, terms)? else {
+            return Ok(list);
+        };
+        list.append(&mut part)?;
     }
 }

@@ -1,7 +1,7 @@
 //! Conditions of formulas in which columns and variables are replaced.
 ghost use Rattle.std.specs.Prelude.{map, OnOk};
-ghost use Rattle.lc_table.specs.Put.{Remembers, replacement_of};
-ghost use Rattle.lc_table.specs.PutNumbers.{AreColumns, AreTerms, replacement_at};
+ghost use Rattle.lc_put.specs.Put.{Remembers, replacement_of};
+ghost use Rattle.lc_put.specs.PutNumbers.{AreColumns, AreTerms, replacement_at};
 ghost use Rattle.lc_term.specs.Replacement.{replace};
 ghost use Rattle.lc_table.specs.Tables.{formulas_in, AreFormulas, Keeps};
 ghost use Rattle.lc_cond.specs.Adding.{Adds, Under};
@@ -13,7 +13,8 @@ use crate::entering::{told, told_by_number};
 use crate::making::{Head, push_each};
 use lc_base::OutOfMemory;
 use lc_kernel::Hypotheses;
-use lc_table::{FormulaId, Put, PutNumbers, ReplacedNodes, Terms, nothing_replaced};
+use lc_put::{Put, PutNumbers, ReplacedNodes, nothing_replaced};
+use lc_table::{FormulaId, Terms};
 use std::alloc::Global;
 
 /// A condition for each of these formulas, with what is put in.

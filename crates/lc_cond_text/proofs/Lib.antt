@@ -4,3 +4,6 @@ mod LinesFrom
 mod Printed
 mod Recalled
 mod Waiting
+mod Places
+mod Laid
+mod Choosing

@@ -8,8 +8,8 @@ use Rattle.lc_object.specs.Syntax as O
 use Rattle.lc_rider.specs.Paths.{Owing, Pending, Named, Enabled, Observing}
 use Rattle.lc_action.specs.Action.{Action}
 use Rattle.lc_outline.specs.Development.{Development, all_actions}
-use Rattle.lc_naming.specs.ColumnNames.{column_names, name_at}
-use Rattle.lc_naming.specs.EdgeWords.{edge_word}
+use Rattle.lc_outline.specs.ColumnNames.{column_names, name_at}
+use Rattle.lc_outline.specs.EdgeWords.{edge_word}
 use Rattle.lc_cond.specs.Conditions.{Kind, Init, InitIdle, Entry, First, Owed, Reply, Invariant, NextKind, Guard, ColumnKind, Stable}
 use Rattle.lc_cond.specs.Conditions.{Passage, NoPassage, ByEdge, ByAction, Which, Alone, Numbered, OfColumn, Condition, conditions}
 

@@ -3,3 +3,5 @@ pub mod CounterLines
 pub mod Recalled
 pub mod LinesView
 pub mod Waiting
+pub mod Shown
+pub mod Chosen

@@ -1,7 +1,7 @@
 //! The names by which conditions are reported.
 ghost use Rattle.std.specs.Prelude.{◌≡◌, [], ◌∷◌, codes};
 ghost use Rattle.lc_outline.specs.DevelopmentView.{development_view};
-ghost use Rattle.lc_naming.specs.ColumnNames.{name_at, column_names};
+ghost use Rattle.lc_outline.specs.ColumnNames.{name_at, column_names};
 ghost use Rattle.lc_cond_text.specs.ConditionText.{point_names, action_names};
 
 use lc_base::{ColId, PointId};
@@ -11,7 +11,7 @@ use lc_outline::Development;
 pub(crate) fn column_name(development: &Development, column: ColId) -> &str
     ensures { result.now ≡ name_at (column_names (development_view development.now)) column.0 }
 {
-    lc_naming::column_name(development.parts(), column)
+    lc_outline::column_name(development.parts(), column)
 }
 
 /// The name of a point; an empty text after the last.

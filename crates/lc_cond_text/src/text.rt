@@ -7,7 +7,7 @@ ghost use Rattle.lc_rider.specs.DutyView.{owing_of};
 ghost use Rattle.lc_outline.specs.DevelopmentView.{development_view};
 ghost use Rattle.lc_cond.specs.ConditionView.{kind_of, passage_of, which_of, place_of, condition_in, IsCondition};
 ghost use Rattle.lc_cond_text.specs.Recalled.{Recalls};
-ghost use Rattle.lc_naming.specs.ColumnNames.{name_at};
+ghost use Rattle.lc_outline.specs.ColumnNames.{name_at};
 ghost use Rattle.lc_cond_text.specs.ConditionText.{duty_word, kind_word, or_hyphen, point_names, passage_text, which_text, spelled, formulas_text, condition_text};
 
 use crate::naming::{action_name, column_name, point_name};
@@ -16,8 +16,7 @@ use crate::texts::{FormulaTexts, is_met, no_texts, push_repeated};
 use lc_base::{OutOfMemory, PointId};
 use lc_cond::{Condition, Kind, Passage, Place, Which};
 use lc_kernel::Goal;
-use lc_naming::edge_word;
-use lc_outline::Development;
+use lc_outline::{Development, edge_word};
 use lc_rider::Owing;
 use lc_table::{FormulaId, Terms};
 use std::alloc::Global;

@@ -4,10 +4,10 @@ ghost use Rattle.lc_cond.specs.ConditionView.{condition_in, AreConditions};
 ghost use Rattle.lc_cond.specs.Conditions.{conditions};
 ghost use Rattle.lc_cond.specs.Numbering.{IsNumbering, IsPartWith};
 ghost use Rattle.lc_cond.specs.Stream.{IsNextPart};
-ghost use Rattle.lc_listing.specs.Chosen.{chosen_text};
-ghost use Rattle.lc_listing.specs.Shown.{IsLaid, line_at};
-ghost use Rattle.lc_naming.specs.ColumnNames.{column_names, name_at};
-ghost use Rattle.lc_naming.specs.EdgeWords.{edge_word};
+ghost use Rattle.lc_cond_text.specs.Chosen.{chosen_text};
+ghost use Rattle.lc_cond_text.specs.Shown.{IsLaid, line_at};
+ghost use Rattle.lc_outline.specs.ColumnNames.{column_names, name_at};
+ghost use Rattle.lc_outline.specs.EdgeWords.{edge_word};
 ghost use Rattle.lc_outline.specs.DevelopmentView.{development_view};
 ghost use Rattle.lc_outline.specs.PartsView.{parts_view};
 ghost use Rattle.lc_reading.specs.Words.{names_in};
@@ -15,10 +15,9 @@ ghost use Rattle.lc_table.specs.Tables.{Keeps};
 
 use lc_base::{ColId, OutOfMemory};
 use lc_cond::{Condition, ConditionStream, NumberedPart, Numbering, conditions};
-use lc_listing::{chosen_conditions, condition_over_lines};
-use lc_naming::{column_name, column_names, edge_word};
+use lc_cond_text::{chosen_conditions, condition_over_lines};
 use lc_object::EdgeKind;
-use lc_outline::{Development, Parts};
+use lc_outline::{Development, Parts, column_name, column_names, edge_word};
 use lc_table::Terms;
 use std::alloc::Global;
 

@@ -9,8 +9,8 @@ use Rattle.lc_run.specs.Ordering.{order_entries}
 use Rattle.lc_run.specs.Locked.{client_in, labels_made}
 use Rattle.lc_run.specs.Seated.{HasOwn}
 use Rattle.lc_run.specs.declared.held.Seat.{Seat}
-use Rattle.lc_hist.specs.Histories.{events_in}
-use Rattle.lc_hist.specs.History.{Linearizes}
+use Rattle.lc_history.specs.Histories.{events_in}
+use Rattle.lc_history.specs.History.{Linearizes}
 use Rattle.lc_machine.specs.World.{World}
 use Rattle.lc_outline.specs.Development.{Development}
 use Rattle.lc_plan.specs.Plans.{Script}

@@ -1,7 +1,7 @@
 -- What comes of a plan.
 use Rattle.std.specs.Prelude.{◌≡◌, ℕ, suc, true, List, [], ◌∷◌, All, length}
-use Rattle.lc_hist.specs.History.{Linearizes}
-use Rattle.lc_hist.specs.Histories.{events_in}
+use Rattle.lc_history.specs.History.{Linearizes}
+use Rattle.lc_history.specs.Histories.{events_in}
 use Rattle.lc_machine.specs.World.{World}
 use Rattle.lc_outline.specs.Development.{Development}
 use Rattle.lc_plan.specs.Plans.{Script}

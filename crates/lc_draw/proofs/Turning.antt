@@ -6,20 +6,12 @@ use Rattle.std.proofs.lemmas.Bool.{eqb-true}
 use Rattle.std.proofs.lemmas.List.{at_drop_more, drop_all, length-map, length-take, map_more}
 use Rattle.std.proofs.lemmas.Bool.Decides.{nat_tests}
 use Rattle.std.proofs.lemmas.Option.{same_Some}
+use Rattle.lc_lemmas.proofs.Numbers.{swapped, flipped_test}
 use Rattle.lc_seq.specs.Sequential.{Call}
-use Rattle.lc_hist.specs.History.{Event, Called, Replied, Entry, count, is_call, is_of}
-use Rattle.lc_hist.specs.WellFormed.{begins}
+use Rattle.lc_history.specs.History.{Event, Called, Replied, Entry, count, is_call, is_of}
+use Rattle.lc_history.specs.WellFormed.{begins}
 use Rattle.lc_draw.specs.Counting.{AreNumbers, IsUpTo, have_calls, number_at, numbered_places, numbers_for, place_at, turns_of}
 use Rattle.lc_draw.specs.Drawings.{has_call, marked}
-
--- two numbers differ either way round
-swapped : (a b : ℕ) → (a == b) ≡ false → (b == a) ≡ false
-swapped a b e = grind (arith, nat_tests)
-
--- and so they are tested
-flipped : (a b : ℕ) (x : Bool) → (a == b) ≡ x → (b == a) ≡ x
-flipped a b true e = eq-eqb b a (sym (eqb-true a b e))
-flipped a b false e = swapped a b e
 
 -- one turn more of a client
 pub one_turn : (old new : List (ℕ × ℕ)) (client turn : ℕ) → turn ≡ turns_of old client → ((c : ℕ) → lookup (λ key. c == key) new ≡ cond (client == c) (Some (turn + 1)) (lookup (λ key. c == key) old)) → (c : ℕ)
@@ -72,7 +64,7 @@ call-up events n turns turns' numbers numbers' client turn number n' call turn-i
     turned c = more c ∙ by (c == client) refl
       where
         by : (b : Bool) → (c == client) ≡ b → cond (c == client) (suc (turns_of turns c)) (turns_of turns c) ≡ count (is_call c) (events ++ Called client call ∷ [])
-        by b e = ap₂ (λ x k. cond x (suc k) k) e (up.turns_are c) ∙ sym (calls c b (flipped c client b e))
+        by b e = ap₂ (λ x k. cond x (suc k) k) e (up.turns_are c) ∙ sym (calls c b (flipped_test c client b e))
 
     numbered : (c t : ℕ) (b : Bool) → (client == c) ≡ b → is_some (cond ((client == c) && (turn == t)) (Some number) (number_at numbers c t)) ≡ nat_lt t (count (is_call c) (events ++ Called client call ∷ []))
     numbered c t true e =
@@ -143,7 +135,7 @@ entries-up f xs i x turns turns' lt is more seen c = more c ∙ (by (c == (f x).
     took = map_more f xs i x lt ∙ ap (λ y. map f (take i xs) ++ f y ∷ []) (sym is)
 
     by : (b : Bool) → (c == (f x).client) ≡ b → cond (c == (f x).client) (suc (turns_of turns c)) (turns_of turns c) ≡ count (is_of c) (map f (take i xs) ++ f x ∷ [])
-    by b e = ap₂ (λ t k. cond t (suc k) k) e (seen c) ∙ sym (count-last (is_of c) (map f (take i xs)) (f x) b (flipped c (f x).client b e))
+    by b e = ap₂ (λ t k. cond t (suc k) k) e (seen c) ∙ sym (count-last (is_of c) (map f (take i xs)) (f x) b (flipped_test c (f x).client b e))
 
 -- the numbers up to this entry, with those of the later entries, are all
 pub numbers-more : {X : Type 0} (f : X → Entry) (ns : List ((ℕ × ℕ) × ℕ)) (order : List X) (i : ℕ) (x : X) (xs xs' all : List (Option ℕ)) (turn : ℕ) (n : Option ℕ) → i < length order → x ≡ get_or order i x

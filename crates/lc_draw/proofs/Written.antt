@@ -4,7 +4,7 @@ use Rattle.std.proofs.lemmas.List.{map_more, map_push}
 use Rattle.std.specs.List.{flat_map}
 use Rattle.std.specs.Fmt.{decimal}
 use Rattle.lc_draw.specs.Elements.{Element, AreWellFormed, HasWritten, IsWellFormed, are_plain, element_text, elements_text}
-use Rattle.lc_draw.specs.Shapes.{Mark, bar_label, bar_path, caption_element, lane_line, lane_name, mark_line, mark_place, order_element, point_text, sheet_element, style_element}
+use Rattle.lc_draw.specs.Shapes.{Mark, bar_label, bar_path, caption_element, cut_label, cut_line, lane_line, lane_name, mark_line, mark_place, order_element, point_text, sheet_element, style_element}
 use Rattle.lc_draw.proofs.Plainness.{plain_append, plain_decimal}
 
 flat_map-append : {A B : Type 0} (f : A → List B) (xs ys : List A) → flat_map f (xs ++ ys) ≡ flat_map f xs ++ flat_map f ys
@@ -117,6 +117,30 @@ mark_line_formed across top a t = record {
 pub mark_place_formed : (place across over : ℕ) → place < 2 ^ 64 → across < 2 ^ 64 → over < 2 ^ 64 → IsWellFormed (mark_place place across over)
 mark_place_formed place across over p a o =
     record { name = refl; attributes = (refl, refl, (refl, plain_decimal across a, (refl, plain_decimal over o, tt))); differ = refl; text = plain_decimal place p }
+
+pub cut_line_formed : (across top until : ℕ) → across < 2 ^ 64 → top < 2 ^ 64 → until < 2 ^ 64 → IsWellFormed (cut_line across top until)
+cut_line_formed across top until a t u = record {
+  name = refl;
+  attributes = (
+    refl,
+    refl,
+    (
+      refl,
+      plain_joined (codes "M") (decimal across ∷ codes " " ∷ decimal top ∷ codes "V" ∷ decimal until ∷ []) refl (plain_decimal across a, (refl, (plain_decimal top t, (refl, (plain_decimal until u, tt))))),
+      tt,
+    ),
+  );
+  differ = refl;
+  text = tt;
+}
+
+pub cut_label_formed : (number across over : ℕ) → number < 2 ^ 64 → across < 2 ^ 64 → over < 2 ^ 64 → IsWellFormed (cut_label number across over)
+cut_label_formed number across over n a o = record {
+  name = refl;
+  attributes = (refl, refl, (refl, plain_decimal across a, (refl, plain_decimal over o, tt)));
+  differ = refl;
+  text = plain_append (codes "event ") (decimal number) refl (plain_decimal number n);
+}
 
 pub point_plain : (across top : ℕ) → across < 2 ^ 64 → top < 2 ^ 64 → are_plain (point_text (across, top)) ≡ true
 point_plain across top a t = plain_joined (decimal across) (codes "," ∷ decimal top ∷ codes " " ∷ []) (plain_decimal across a) (refl, (plain_decimal top t, (refl, tt)))

@@ -1,8 +1,8 @@
 -- How often clients came up, and the numbers of their calls.
 use Rattle.std.specs.Prelude.{◌≡◌, ℕ, suc, ◌<◌, ◌==◌, ◌&&◌, nat_lt, Bool, List, [], ◌∷◌, ◌++◌, Option, Some, None, is_some, length, map, unwrap_or, IfSome, All}
 use Rattle.std.specs.Map.{lookup}
-use Rattle.lc_hist.specs.History.{Event, Entry, count, is_call, is_of}
-use Rattle.lc_hist.specs.WellFormed.{begins}
+use Rattle.lc_history.specs.History.{Event, Entry, count, is_call, is_of}
+use Rattle.lc_history.specs.WellFormed.{begins}
 use Rattle.lc_draw.specs.Drawings.{has_call}
 
 -- how many turns a client has had

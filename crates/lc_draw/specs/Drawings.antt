@@ -1,13 +1,13 @@
 -- Drawings of histories.
-use Rattle.std.specs.Prelude.{◌≡◌, ℕ, suc, Bool, nat_lt, cond, List, [], ◌∷◌, ◌++◌, codes, length, map}
+use Rattle.std.specs.Prelude.{◌≡◌, ℕ, suc, ◌&&◌, Bool, nat_lt, nat_le, cond, List, [], ◌∷◌, ◌++◌, Option, Some, None, option_map, codes, length, map}
 use Rattle.std.specs.List.{flat_map}
 use Rattle.std.specs.Fmt.{decimal}
-use Rattle.lc_hist.specs.History.{Event, Entry, count, is_call, is_of}
-use Rattle.lc_hist.specs.WellFormed.{begins}
+use Rattle.lc_history.specs.History.{Event, Entry, count, is_call, is_of}
+use Rattle.lc_history.specs.WellFormed.{begins}
 use Rattle.lc_draw.specs.Elements.{Element, elements_text, AreWellFormed}
-use Rattle.lc_draw.specs.Shapes.{Lane, lane_elements, Bar, bar_elements, Mark, mark_elements, order_element, caption_element, sheet_element, style_element}
+use Rattle.lc_draw.specs.Shapes.{Lane, lane_elements, Bar, bar_elements, Mark, mark_elements, Cut, cut_elements, order_element, caption_element, sheet_element, style_element}
 
--- what is on a sheet: a lane for each client, bars, the line from mark to mark, marks, and what is said of the order
+-- what is on a sheet: a lane for each client, bars, the line from mark to mark, marks, a line behind an event, and what is said of the order
 pub record Picture : Type 0 where
   pub width : ℕ
   pub height : ℕ
@@ -16,6 +16,7 @@ pub record Picture : Type 0 where
   pub bars : List Bar
   pub points : List (ℕ × ℕ)
   pub marks : List Mark
+  pub cut : Option Cut
   pub above : ℕ
   pub caption : List ℕ
 
@@ -23,7 +24,7 @@ abbrev pub elements_of : Picture → List Element
 elements_of p =
     style_element p.style
     ∷ sheet_element p.width p.height
-    ∷ flat_map lane_elements p.lanes ++ flat_map bar_elements p.bars ++ order_element p.points ∷ flat_map mark_elements p.marks ++ caption_element p.above p.caption ∷ []
+    ∷ flat_map lane_elements p.lanes ++ flat_map bar_elements p.bars ++ order_element p.points ∷ flat_map mark_elements p.marks ++ cut_elements p.cut ++ caption_element p.above p.caption ∷ []
 
 -- the tag before all elements
 abbrev pub opening_text : ℕ → ℕ → List ℕ
@@ -43,14 +44,21 @@ abbrev pub marked : List Event → List Entry → ℕ → List Entry → List �
 marked events before k [] = []
 marked events before k (e ∷ es) = cond (has_call events before e) (k ∷ marked events (before ++ e ∷ []) (suc k) es) (marked events (before ++ e ∷ []) (suc k) es)
 
--- the text is that of a picture with so many bars, and marks with these places, whose elements are well-formed
-pub record Draws (bars : ℕ) (places text : List ℕ) : Type 0 where
+-- the number of an event, from 1, if the history has it
+abbrev pub event_in : List Event → Option ℕ → Option ℕ
+event_in events None = None
+event_in events (Some n) = cond (nat_lt 0 n && nat_le n (length events)) (Some n) None
+
+-- the text is that of a picture with so many bars, marks with these places, and a line behind this event, whose elements are well-formed
+pub record Draws (bars : ℕ) (places : List ℕ) (event : Option ℕ) (text : List ℕ) : Type 0 where
   pub picture : Picture
   pub is : text ≡ picture_text picture
   pub well_formed : AreWellFormed (elements_of picture)
   pub bars_are : length picture.bars ≡ bars
   pub marks_are : map (λ (m : Mark). m.place) picture.marks ≡ places
+  pub cut_is : option_map (λ (c : Cut). c.number) picture.cut ≡ event
 
--- The text draws a bar for each call of the history, and a mark with its place for each entry of the order that has a call
-abbrev pub IsDrawing : List Event → List Entry → List ℕ → Type 0
-IsDrawing events order text = Draws (count begins events) (marked events [] 0 order) text
+-- The text draws a bar for each call of the history, a mark with its place for each entry of the order that has a call, and a line
+-- behind the event of this number, if the history has it
+abbrev pub IsDrawing : List Event → List Entry → Option ℕ → List ℕ → Type 0
+IsDrawing events order event text = Draws (count begins events) (marked events [] 0 order) (event_in events event) text

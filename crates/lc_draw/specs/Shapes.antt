@@ -1,5 +1,5 @@
 -- What is on a drawing, and the elements that show it. Numbers say how far to the right and how far down something is.
-use Rattle.std.specs.Prelude.{ℕ, Bool, if◌then◌else◌, List, [], ◌∷◌, ◌++◌, codes, Some, None}
+use Rattle.std.specs.Prelude.{ℕ, Bool, if◌then◌else◌, List, [], ◌∷◌, ◌++◌, codes, Option, Some, None}
 use Rattle.std.specs.List.{flat_map}
 use Rattle.std.specs.Fmt.{decimal}
 use Rattle.lc_draw.specs.Elements.{Element}
@@ -77,6 +77,24 @@ point_text p = decimal p.0 ++ codes "," ++ decimal p.1 ++ codes " "
 
 abbrev pub order_element : List (ℕ × ℕ) → Element
 order_element points = record { name = codes "polyline"; attributes = (codes "class", codes "order") ∷ (codes "points", flat_map point_text points) ∷ []; text = None }
+
+-- the line behind an event, and the number of the event over it, from 1
+pub record Cut : Type 0 where
+  pub number : ℕ
+  pub across : ℕ
+  pub top : ℕ
+  pub until : ℕ
+  pub over : ℕ
+
+abbrev pub cut_line : (across top until : ℕ) → Element
+cut_line across top until = record { name = codes "path"; attributes = (codes "class", codes "fault") ∷ (codes "d", codes "M" ++ decimal across ++ codes " " ++ decimal top ++ codes "V" ++ decimal until) ∷ []; text = None }
+
+abbrev pub cut_label : (number across over : ℕ) → Element
+cut_label number across over = record { name = codes "text"; attributes = (codes "class", codes "place") ∷ (codes "x", decimal across) ∷ (codes "y", decimal over) ∷ []; text = Some (codes "event " ++ decimal number) }
+
+abbrev pub cut_elements : Option Cut → List Element
+cut_elements None = []
+cut_elements (Some c) = cut_line c.across c.top c.until ∷ cut_label c.number c.across c.over ∷ []
 
 -- what is said of the order
 abbrev pub caption_element : ℕ → List ℕ → Element

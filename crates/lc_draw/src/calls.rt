@@ -1,13 +1,12 @@
 //! The calls of a history, and the entries of an order that are theirs.
 ghost use Rattle.std.specs.Prelude.{◌≡◌, [], IfOk, vec_len};
-ghost use Rattle.lc_hist.specs.JsonHistories.{entries_view};
-ghost use Rattle.lc_hist.specs.View.{events_of};
+ghost use Rattle.lc_history.specs.View.{events_of, entries_view};
 ghost use Rattle.lc_draw.specs.Counting.{IsUpTo, numbers_for};
 
 use crate::counting::{next_turn, number_at, put_number, turns_of};
 use indexmap::IndexMap;
 use lc_base::{OpId, OutOfMemory};
-use lc_hist::{Done, Event};
+use lc_history::{Done, Event};
 use lc_seq::{Pick, TextCall};
 use std::alloc::Global;
 
@@ -48,9 +47,9 @@ impl Drop for Calls<'_> {
 impl<'a> Calls<'a> {
     ghost use Rattle.std.specs.Prelude.{◌≡◌, ◌+◌, ◌<◌, ◌^◌, ◌++◌, ◌∷◌, [], List, OnOk, vec_len};
     ghost use Rattle.lc_seq.specs.Sequential as Q;
-    ghost use Rattle.lc_hist.specs.History as H;
-    ghost use Rattle.lc_hist.specs.View.{event_of};
-    ghost use Rattle.lc_hist.specs.WellFormed.{client_of};
+    ghost use Rattle.lc_history.specs.History as H;
+    ghost use Rattle.lc_history.specs.View.{event_of};
+    ghost use Rattle.lc_history.specs.WellFormed.{client_of};
     ghost use Rattle.lc_draw.specs.Counting.{IsUpTo, turns_of};
 
     fn new(alloc: Global) -> Calls<'a>

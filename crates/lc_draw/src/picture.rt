@@ -1,19 +1,19 @@
 //! The drawing of a history.
-ghost use Rattle.std.specs.Prelude.{◌≡◌, [], IfOk, map, string_bytes, vec_len};
-ghost use Rattle.lc_hist.specs.Histories.{events_in};
-ghost use Rattle.lc_hist.specs.History.{count};
-ghost use Rattle.lc_hist.specs.JsonHistories.{entries_view};
-ghost use Rattle.lc_hist.specs.WellFormed.{begins};
-ghost use Rattle.lc_draw.specs.Drawings.{Draws, IsDrawing, marked};
+ghost use Rattle.std.specs.Prelude.{◌≡◌, [], IfOk, map, option_map, string_bytes, vec_len};
+ghost use Rattle.lc_history.specs.Histories.{events_in};
+ghost use Rattle.lc_history.specs.History.{count};
+ghost use Rattle.lc_history.specs.View.{entries_view};
+ghost use Rattle.lc_history.specs.WellFormed.{begins};
+ghost use Rattle.lc_draw.specs.Drawings.{Draws, IsDrawing, event_in, marked};
 
 use crate::calls::{Calls, calls_of, note_entries, numbers_of};
-use crate::places::{Bar, Mark, bars_of, marks_of, put_bars};
+use crate::places::{Bar, Cut, Mark, bars_of, cut_of, marks_of, put_bars};
 use crate::svg::{
-    Sheet, begin_sheet, end_sheet, push_bars, push_caption, push_lanes, push_marks, push_order,
-    push_sheet, push_style,
+    Sheet, begin_sheet, end_sheet, push_bars, push_caption, push_cut, push_lanes, push_marks,
+    push_order, push_sheet, push_style,
 };
 use lc_base::OutOfMemory;
-use lc_hist::{Done, History, JudgeFault, Reason, judge};
+use lc_history::{Done, History, JudgeFault, Reason, judge};
 use lc_seq::{Pick, TextCall, TextSpec};
 use std::alloc::Global;
 
@@ -22,18 +22,27 @@ use std::alloc::Global;
 pub(crate) enum Judged {
     Linearizes,
     Fails { place: usize, reason: Reason },
+    /// No order linearizes so many first events.
+    Unordered(usize),
+    /// There is no order that could be judged, and calls returned.
+    Orderless,
     LeavesNumbers,
 }
 
-/// What the judge says of an order.
+/// What the judge says of an order, unless it is known that there is none.
 fn judgement_of(
     alloc: Global,
     spec: &TextSpec,
     history: &History,
     order: &[Done<TextCall, Pick, Vec<i64>>],
+    event: Option<usize>,
 ) -> Result<Judged, OutOfMemory> {
+    if let Some(number) = event {
+        return Ok(Judged::Unordered(number));
+    }
     match judge(alloc, spec, history, order) {
         Ok(()) => Ok(Judged::Linearizes),
+        Err(JudgeFault::Order { .. }) if order.is_empty() => Ok(Judged::Orderless),
         Err(JudgeFault::Order { place, reason }) => Ok(Judged::Fails {
             place: place as usize,
             reason,
@@ -43,8 +52,17 @@ fn judgement_of(
     }
 }
 
-/// Where the bar of the entry begins that is at fault, if the fault is that a later entry's call precedes it.
-fn preceded_from(bars: &[Bar], bar_of_entry: &[Option<usize>], judged: Judged) -> u64 {
+/// Where the bar of the entry begins that is at fault, if the fault is that a later entry's call precedes it; where the event is
+/// up to which no order linearizes the history, if that is known.
+fn fault_from(
+    bars: &[Bar],
+    bar_of_entry: &[Option<usize>],
+    judged: Judged,
+    cut: Option<Cut>,
+) -> u64 {
+    if let Some(cut) = cut {
+        return cut.across;
+    }
     let Judged::Fails {
         place,
         reason: Reason::Preceded,
@@ -58,13 +76,16 @@ fn preceded_from(bars: &[Bar], bar_of_entry: &[Option<usize>], judged: Judged) -
 }
 
 /// Whether a bar is what makes the order no linearization: the entry's call; a call without an entry, if one is missing; or
-/// the call of a later entry that returned before the entry's call began, which is there.
-pub(crate) fn is_at_fault(bar: &Bar, judged: Judged, preceded: u64) -> bool {
-    let Judged::Fails { place, reason } = judged else {
-        return false;
+/// the call of a later entry that returned before the entry's call began, which is there. If there is no order, it is the call that
+/// returns there.
+pub(crate) fn is_at_fault(bar: &Bar, judged: Judged, from: u64) -> bool {
+    let (place, reason) = match judged {
+        Judged::Fails { place, reason } => (place, reason),
+        Judged::Unordered(_) => return bar.has_returned && bar.ends == from,
+        Judged::Linearizes | Judged::Orderless | Judged::LeavesNumbers => return false,
     };
     match bar.place {
-        Some(own) => own == place || own > place && bar.has_returned && bar.ends < preceded,
+        Some(own) => own == place || own > place && bar.has_returned && bar.ends < from,
         None => matches!(reason, Reason::MissingCall) && bar.has_returned,
     }
 }
@@ -75,8 +96,10 @@ struct Laid<'a> {
     marks: Vec<Mark>,
     calls: Calls<'a>,
     sheet: Sheet,
-    /// Where the bar begins that a later entry's call precedes, if that is the fault.
-    preceded: u64,
+    /// The line behind the event up to which no order linearizes the history, if that is known.
+    cut: Option<Cut>,
+    /// Where the fault is, if it is one of order.
+    fault: u64,
 }
 
 impl Drop for Laid<'_> {
@@ -86,7 +109,8 @@ impl Drop for Laid<'_> {
             marks: _,
             calls: _,
             sheet: _,
-            preceded: _,
+            cut: _,
+            fault: _,
         } = self;
     }
 }
@@ -98,9 +122,11 @@ fn laid_out<'a>(
     history: &'a History,
     order: &'a [Done<TextCall, Pick, Vec<i64>>],
     judged: Judged,
+    event: Option<usize>,
 ) -> Result<Laid<'a>, OutOfMemory>
     ensures bars { IfOk result (λ laid. vec_len laid.bars ≡ count begins (events_in history.now)) }
     ensures marks { IfOk result (λ laid. map (λ mark. mark.place) laid.marks.items ≡ marked (events_in history.now) [] 0 (entries_view order.now)) }
+    ensures cut { IfOk result (λ laid. option_map (λ cut. cut.number) laid.cut ≡ event_in (events_in history.now) event) }
 {
     let mut calls = calls_of(alloc, history.events())?;
     let bar_of_entry = numbers_of(alloc, &calls, order)?;
@@ -108,29 +134,32 @@ fn laid_out<'a>(
     let mut bars = bars_of(alloc, spec.operations(), &calls)?;
     let across = put_bars(&mut bars, &calls.call_of_event);
     let marks = marks_of(alloc, &bars, &bar_of_entry)?;
-    let preceded = preceded_from(&bars, &bar_of_entry, judged);
+    let cut = cut_of(&bars, history.events(), &calls.call_of_event, event);
+    let fault = fault_from(&bars, &bar_of_entry, judged, cut);
     let sheet = Sheet::new(across, calls.turns.len());
     Ok(Laid {
         bars,
         marks,
         calls,
         sheet,
-        preceded,
+        cut,
+        fault,
     })
 }
 
 // What is laid out, as SVG text.
 fn laid_text(alloc: Global, laid: &Laid<'_>, judged: Judged) -> Result<String, OutOfMemory>
-    ensures { IfOk result (λ text. Draws (vec_len laid.now.bars) (map (λ mark. mark.place) laid.now.marks.items) (string_bytes text)) }
+    ensures { IfOk result (λ text. Draws (vec_len laid.now.bars) (map (λ mark. mark.place) laid.now.marks.items) (option_map (λ cut. cut.number) laid.now.cut) (string_bytes text)) }
 {
     let mut out = String::new(alloc);
     begin_sheet(&mut out, laid.sheet.width, laid.sheet.height)?;
     push_style(&mut out)?;
     push_sheet(&mut out, laid.sheet.width, laid.sheet.height)?;
     push_lanes(&mut out, laid.sheet, &laid.calls.turns)?;
-    push_bars(&mut out, &laid.bars, judged, laid.preceded)?;
+    push_bars(&mut out, &laid.bars, judged, laid.fault)?;
     push_order(&mut out, &laid.marks)?;
     push_marks(&mut out, &laid.marks)?;
+    push_cut(&mut out, laid.sheet, laid.cut)?;
     push_caption(alloc, &mut out, laid.sheet, judged)?;
     end_sheet(&mut out)?;
     Ok(out)
@@ -139,17 +168,19 @@ fn laid_text(alloc: Global, laid: &Laid<'_>, judged: Judged) -> Result<String, O
 /// The drawing of a history with an order, as SVG text, without a script: a lane for each client, in which a bar goes from each
 /// call to its return, open at the right if it has not returned; and in the bars the entries of the order as marks with their
 /// places, from 0, joined by a line that goes only to the right if no later entry's call precedes another. What makes the
-/// order no linearization of the history stands out, and the reason is below.
+/// order no linearization of the history stands out, and the reason is below. If it is known that no order linearizes the events up
+/// to one, that one's number, from 1, may be given: then a line is behind it, and that there is no order is said below.
 pub fn drawing(
     alloc: Global,
     spec: &TextSpec,
     history: &History,
     order: &[Done<TextCall, Pick, Vec<i64>>],
+    event: Option<usize>,
 ) -> Result<String, OutOfMemory>
-    ensures { IfOk result (λ text. IsDrawing (events_in history.now) (entries_view order.now) (string_bytes text)) }
+    ensures { IfOk result (λ text. IsDrawing (events_in history.now) (entries_view order.now) event (string_bytes text)) }
 {
-    let judged = judgement_of(alloc, spec, history, order)?;
-    let laid = laid_out(alloc, spec, history, order, judged)?;
+    let judged = judgement_of(alloc, spec, history, order, event)?;
+    let laid = laid_out(alloc, spec, history, order, judged, event)?;
     let text = laid_text(alloc, &laid, judged)?;
     Ok(text)
 }

@@ -1,10 +1,13 @@
 //! Where bars and marks are, from left to right.
-ghost use Rattle.std.specs.Prelude.{◌≡◌, ◌<◌, ◌++◌, All, IfOk, IfSome, OnOk, length, map, vec_len};
+ghost use Rattle.std.specs.Prelude.{◌≡◌, ◌<◌, ◌++◌, All, IfOk, IfSome, OnOk, length, map, option_map, vec_len};
+ghost use Rattle.lc_history.specs.View.{events_of};
 ghost use Rattle.lc_draw.specs.Counting.{numbered_places, place_at};
+ghost use Rattle.lc_draw.specs.Drawings.{event_in};
 
 use crate::calls::Calls;
 use crate::texts::{Plain, call_text};
 use lc_base::OutOfMemory;
+use lc_history::Event;
 use lc_seq::Operation;
 use std::alloc::Global;
 
@@ -40,6 +43,13 @@ pub(crate) struct Mark {
     pub(crate) place: usize,
     pub(crate) lane: usize,
     /// How far to the right it is.
+    pub(crate) across: u64,
+}
+
+/// The line behind an event, as it is drawn: its number, from 1, and how far to the right it is.
+#[derive(Clone, Copy)]
+pub(crate) struct Cut {
+    pub(crate) number: usize,
     pub(crate) across: u64,
 }
 
@@ -149,4 +159,31 @@ pub(crate) fn marks_of(
         behind = mark_entry(&mut marks, bars, place, *number, behind)?;
     }
     Ok(marks)
+}
+
+/// How far to the right the event at a place is.
+fn event_across(bars: &[Bar], bar_of_event: &[usize], place: usize, begins: bool) -> u64 {
+    let number = bar_of_event.get(place).copied();
+    let Some(bar) = number.and_then(|number| bars.get(number)) else {
+        return 0;
+    };
+    if begins { bar.begins } else { bar.ends }
+}
+
+/// The line behind the event of a number, from 1, if there is one.
+pub(crate) fn cut_of(
+    bars: &[Bar],
+    events: &[Event],
+    bar_of_event: &[usize],
+    number: Option<usize>,
+) -> Option<Cut>
+    ensures { option_map (λ cut. cut.number) result ≡ event_in (events_of events.now) number }
+{
+    let number = number?;
+    let place = number.checked_sub(1)?;
+    let event = events.get(place)?;
+    Some(Cut {
+        number,
+        across: event_across(bars, bar_of_event, place, event.begins()),
+    })
 }

@@ -1,13 +1,13 @@
 //! The elements of a drawing, as SVG text.
-ghost use Rattle.std.specs.Prelude.{◌≡◌, ◌++◌, ◌∷◌, [], ℕ, List, true, OnOk, codes, length, map, string_bytes};
+ghost use Rattle.std.specs.Prelude.{◌≡◌, ◌++◌, ◌∷◌, [], ℕ, List, Option, Some, true, OnOk, codes, length, map, option_map, string_bytes};
 ghost use Rattle.std.specs.List.{flat_map};
 ghost use Rattle.lc_draw.specs.Drawings.{opening_text};
 ghost use Rattle.lc_draw.specs.Elements.{HasWritten, IsWellFormed, are_plain, element_text};
 ghost use Rattle.lc_draw.specs.Shapes as S;
-ghost use Rattle.lc_draw.specs.Shapes.{bar_elements, bar_label, bar_line, bar_path, caption_element, class_of, close_of, lane_elements, lane_line, lane_name, mark_elements, mark_line, mark_place, order_element, point_text, sheet_element, style_element};
+ghost use Rattle.lc_draw.specs.Shapes.{bar_elements, bar_label, bar_line, bar_path, caption_element, class_of, close_of, cut_elements, cut_label, cut_line, lane_elements, lane_line, lane_name, mark_elements, mark_line, mark_place, order_element, point_text, sheet_element, style_element};
 
 use crate::picture::{Judged, is_at_fault};
-use crate::places::{Bar, Mark};
+use crate::places::{Bar, Cut, Mark};
 use crate::texts::Plain;
 use indexmap::IndexMap;
 use lc_base::OutOfMemory;
@@ -252,17 +252,17 @@ fn push_bar(out: &mut String, bar: &Bar, is_at_fault: bool) -> Result<(), OutOfM
     Ok(())
 }
 
-/// Writes bars. Where a fault of the order is that a later entry's call precedes another, this other one begins here.
+/// Writes bars. What is at fault is by where the fault is.
 pub(crate) fn push_bars(
     out: &mut String,
     bars: &[Bar],
     judged: Judged,
-    preceded: u64,
+    from: u64,
 ) -> Result<(), OutOfMemory>
     ensures { OnOk result ((bs : List S.Bar) × (length bs ≡ length bars.now) × HasWritten (flat_map bar_elements bs) (string_bytes out.old) (string_bytes out.new)) }
 {
     for bar in bars {
-        push_bar(out, bar, is_at_fault(bar, judged, preceded))?;
+        push_bar(out, bar, is_at_fault(bar, judged, from))?;
     }
     Ok(())
 }
@@ -340,6 +340,56 @@ pub(crate) fn push_marks(out: &mut String, marks: &[Mark]) -> Result<(), OutOfMe
     Ok(())
 }
 
+fn write_cut_line(out: &mut String, across: u64, top: u64, until: u64) -> Result<(), OutOfMemory>
+    ensures text { OnOk result (string_bytes out.new ≡ string_bytes out.old ++ element_text (cut_line across top until)) }
+    ensures formed { OnOk result (IsWellFormed (cut_line across top until)) }
+{
+    write!(
+        out,
+        "<path class=\"fault\" d=\"M{across} {top}V{until}\"/>\n"
+    )?;
+    Ok(())
+}
+
+fn write_cut_label(
+    out: &mut String,
+    number: usize,
+    across: u64,
+    over: u64,
+) -> Result<(), OutOfMemory>
+    ensures text { OnOk result (string_bytes out.new ≡ string_bytes out.old ++ element_text (cut_label number across over)) }
+    ensures formed { OnOk result (IsWellFormed (cut_label number across over)) }
+{
+    write!(
+        out,
+        "<text class=\"place\" x=\"{across}\" y=\"{over}\">event {number}</text>\n"
+    )?;
+    Ok(())
+}
+
+// Writes the line behind an event, through all lanes, and the number of the event over it.
+fn write_cut(out: &mut String, sheet: Sheet, cut: Cut) -> Result<(), OutOfMemory>
+    ensures { OnOk result ((c : S.Cut) × (c.number ≡ cut.number) × HasWritten (cut_elements (Some c)) (string_bytes out.old) (string_bytes out.new)) }
+{
+    let across = across_of(cut.across);
+    let until = sheet.height.saturating_sub(BELOW);
+    let over = ABOVE.saturating_sub(6);
+    write_cut_line(out, across, ABOVE, until)?;
+    write_cut_label(out, cut.number, across, over)?;
+    Ok(())
+}
+
+/// Writes the line behind an event, if there is one.
+pub(crate) fn push_cut(out: &mut String, sheet: Sheet, cut: Option<Cut>) -> Result<(), OutOfMemory>
+    ensures { OnOk result ((c : Option S.Cut) × (option_map (λ (its : S.Cut). its.number) c ≡ option_map (λ its. its.number) cut) × HasWritten (cut_elements c) (string_bytes out.old) (string_bytes out.new)) }
+{
+    let Some(its) = cut else {
+        return Ok(());
+    };
+    write_cut(out, sheet, its)?;
+    Ok(())
+}
+
 fn write_caption(out: &mut String, above: u64, text: &str) -> Result<(), OutOfMemory>
     requires plain { are_plain text.now ≡ true }
     ensures text { OnOk result (string_bytes out.new ≡ string_bytes out.old ++ element_text (caption_element above text.now)) }
@@ -360,6 +410,13 @@ fn caption(alloc: Global, judged: Judged) -> Result<Plain, OutOfMemory> {
             let said = format!(in alloc; "not linearized at place {place}: {reason}")?;
             text.word(said.as_str())
         }
+        Judged::Unordered(number) => {
+            let said = format!(in alloc;
+                "not linearizable: no order linearizes the first {number} events"
+            )?;
+            text.word(said.as_str())
+        }
+        Judged::Orderless => text.word("nothing is said: no order is known"),
         Judged::LeavesNumbers => {
             text.word("nothing is said: a number that the specification reaches leaves 64 bits")
         }

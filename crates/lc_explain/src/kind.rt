@@ -67,8 +67,12 @@ static FIRST_WORDS: [(&str, FileKind); 6] = [
     ("plan", FileKind::Plan),
 ];
 
-/// What a file looks like, by its first byte and the word of its first form.
+/// How many bytes are looked at for the first form, so that a long file is not read to its end for a word.
+const LOOKED_AT: usize = 65_536;
+
+/// What a file looks like, by its first byte and the word of its first form, which begins in the first 65,536 bytes.
 pub fn looks_like(bytes: &[u8]) -> Option<FileKind> {
+    let bytes = &bytes[..bytes.len().min(LOOKED_AT)];
     if bytes.trim_ascii_start().first() == Some(&b'{') {
         return Some(FileKind::History);
     }

@@ -1,6 +1,8 @@
 //! The lists of a file, one after another, in the order in which they begin.
 use crate::around::word_at;
 use lc_place::{Place, byte_place, item_place};
+use lc_sexp::is_atom;
+use std::str;
 
 /// How many lists around a list are known by their words.
 const KNOWN_DEPTH: usize = 8;
@@ -13,9 +15,15 @@ pub(crate) fn is_in_comment(byte: u8, before: bool) -> bool {
     byte != b'\n' && (before || byte == b';')
 }
 
-/// The place of the item that begins at an offset.
-pub(crate) fn place_from(bytes: &[u8], offset: usize) -> Option<Place> {
+/// The item that begins at an offset. Of its place the line and the column are not those of the file.
+pub(crate) fn span_from(bytes: &[u8], offset: usize) -> Option<Place> {
     let item = item_place(bytes.get(offset..)?, 0)?;
+    Some(Place { offset, ..item })
+}
+
+/// The place of the item that begins at an offset.
+pub fn place_from(bytes: &[u8], offset: usize) -> Option<Place> {
+    let item = span_from(bytes, offset)?;
     let place = byte_place(bytes, offset as u64)?;
     Some(Place {
         length: item.length,
@@ -95,11 +103,21 @@ fn atom_in(bytes: &[u8], number: u64) -> &str {
     }
 }
 
+/// The atom with which these bytes begin, which is empty if they begin with none.
+pub(crate) fn leading_atom(bytes: &[u8]) -> &str {
+    let letters = bytes.iter().take_while(|byte| is_atom(&[**byte]));
+    match bytes.get(..letters.count()) {
+        Some(word) => str::from_utf8(word).unwrap_or(""),
+        None => "",
+    }
+}
+
 /// The word of the list with which these bytes begin, which is empty if it begins with none.
 pub(crate) fn word_of_list(list: &[u8]) -> &str {
     let inside = window(rest_of(list, 1)).trim_ascii_start();
     match inside.first() {
         Some(b'(' | b')') | None => "",
+        Some(first) if is_atom(&[*first]) => leading_atom(inside),
         Some(_) => atom_in(inside, 0),
     }
 }
@@ -197,20 +215,20 @@ impl<'a> Lists<'a> {
     /// The list that begins next.
     pub(crate) fn next(&mut self) -> Option<List<'a>> {
         let start = self.at;
-        for (step, byte) in rest_of(self.bytes, start).iter().copied().enumerate() {
-            let at = start.saturating_add(step);
-            self.at = at.saturating_add(1);
-            self.in_comment = is_in_comment(byte, self.in_comment);
-            if self.in_comment {
-                continue;
-            }
-            if byte == b'(' {
-                return Some(self.opened(at));
-            }
-            if byte == b')' {
-                self.depth = self.depth.saturating_sub(1);
+        for (step, byte) in rest_of(self.bytes, start).iter().enumerate() {
+            match *byte {
+                b';' => self.in_comment = true,
+                b'\n' => self.in_comment = false,
+                b'(' if !self.in_comment => {
+                    let at = start.saturating_add(step);
+                    self.at = at.saturating_add(1);
+                    return Some(self.opened(at));
+                }
+                b')' if !self.in_comment => self.depth = self.depth.saturating_sub(1),
+                _ => {}
             }
         }
+        self.at = self.bytes.len();
         None
     }
 }

@@ -37,8 +37,8 @@ pub(crate) fn begins_comment(word: &str) -> bool {
         || word.starts_with("/*")
 }
 
-/// The file from the beginning of the line of an offset on.
-fn line_around(bytes: &[u8], offset: usize) -> &[u8] {
+/// Where the line of an offset begins.
+fn line_start(bytes: &[u8], offset: usize) -> usize {
     let mut start = 0;
     for (at, byte) in bytes.iter().copied().enumerate() {
         if at >= offset {
@@ -48,18 +48,43 @@ fn line_around(bytes: &[u8], offset: usize) -> &[u8] {
             start = at.saturating_add(1);
         }
     }
-    bytes.get(start..).unwrap_or(&[])
+    start
 }
 
-/// Whether these bytes begin with a comment of another language, after blanks.
-fn has_comment_sign(line: &[u8]) -> bool {
-    let line = line.trim_ascii_start();
-    line.starts_with(b"//") || line.starts_with(b"#") || line.starts_with(b"/*")
+/// How many bytes the sign has with which these begin, if it begins comments in another language; 0 if none does.
+fn sign_length(line: &[u8]) -> usize {
+    if line.starts_with(b"//") || line.starts_with(b"/*") {
+        2
+    } else if line.starts_with(b"#") {
+        1
+    } else {
+        0
+    }
+}
+
+/// A sign that begins comments in another language.
+#[derive(Clone, Copy)]
+pub(crate) struct CommentSign {
+    pub offset: usize,
+    pub length: usize,
+}
+
+/// The sign with which the line of an offset begins, after blanks, if it begins comments in another language.
+pub(crate) fn comment_sign(bytes: &[u8], offset: usize) -> Option<CommentSign> {
+    let line = bytes.get(line_start(bytes, offset)..)?.trim_ascii_start();
+    let length = sign_length(line);
+    if length == 0 {
+        return None;
+    }
+    Some(CommentSign {
+        offset: bytes.len().checked_sub(line.len())?,
+        length,
+    })
 }
 
 /// Whether the line of an offset is a comment of another language.
 pub(crate) fn is_other_comment(bytes: &[u8], offset: usize) -> bool {
-    has_comment_sign(line_around(bytes, offset))
+    comment_sign(bytes, offset).is_some()
 }
 
 /// The operator of another language that is at an offset; empty if none is known.

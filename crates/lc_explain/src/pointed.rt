@@ -1,9 +1,10 @@
 //! The least wrong part of a point that does not fit.
 use crate::declared::{Sort, seek};
 use crate::lists::{List, Parts, place_from};
-use crate::sentence::{Meant, Sentence};
+use crate::operators::comment_sign;
+use crate::sentence::{Meant, OTHER_COMMENT, Sentence};
 use crate::table::{is_among, text_beside};
-use lc_place::Place;
+use lc_place::{Place, byte_place};
 
 /// What is wrong at a place.
 #[derive(Clone, Copy)]
@@ -47,6 +48,22 @@ fn without_on<'a>(bytes: &'a [u8], point: List<'a>, edge: &'static str) -> Optio
     Some(Pointed {
         place,
         sentence: Sentence::NeedsOn(edge),
+    })
+}
+
+/// The sign of a comment of another language with which the line of a byte begins that cannot be read, if it begins with one.
+pub(crate) fn other_comment(bytes: &[u8], offset: usize) -> Option<Pointed<'_>> {
+    if matches!(bytes.get(offset)?, b'(' | b')') {
+        return None;
+    }
+    let sign = comment_sign(bytes, offset)?;
+    let place = byte_place(bytes, sign.offset as u64)?;
+    Some(Pointed {
+        place: Place {
+            length: sign.length,
+            ..place
+        },
+        sentence: Sentence::Said(&OTHER_COMMENT, ""),
     })
 }
 

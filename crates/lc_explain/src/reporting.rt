@@ -6,7 +6,7 @@ use crate::kind::FileKind;
 use crate::label::Label;
 use crate::lists::List;
 use crate::locating::located;
-use crate::pointed::{Pointed, wrong_part};
+use crate::pointed::{Pointed, other_comment, wrong_part};
 use lc_base::{OutOfMemory, Refusal};
 use lc_place::{byte_place, item_place};
 use std::alloc::Global;
@@ -107,16 +107,17 @@ fn is_of_a_bracket(bytes: &[u8], refusal: &Refusal) -> bool {
     }
 }
 
-/// The least wrong part of the item whose shape is wrong, if it is known.
-fn unfit_part<'a>(bytes: &'a [u8], refusal: &Refusal) -> Option<Pointed<'a>> {
+/// What is wrong before the byte that cannot be read, or the least wrong part of the item whose shape is wrong, if it is known.
+fn known_part<'a>(bytes: &'a [u8], refusal: &Refusal) -> Option<Pointed<'a>> {
     match refusal {
+        Refusal::Text(offset) => other_comment(bytes, usize::try_from(*offset).ok()?),
         Refusal::Shape(item) => wrong_part(bytes, item_place(bytes, *item)?),
         _ => None,
     }
 }
 
 /// Where and why a file of s-expressions is refused, as `explanation` has it; but if a list does not fit, of its least wrong part, if
-/// that is known, and of a bracket with what the indentation of lines says of it.
+/// that is known; of a comment of another language, of its sign; and of a bracket with what the indentation of lines says of it.
 pub fn report(
     alloc: Global,
     path: &str,
@@ -124,7 +125,7 @@ pub fn report(
     bytes: &[u8],
     refusal: &Refusal,
 ) -> Result<Option<Vec<u8>>, OutOfMemory> {
-    if let Some(pointed) = unfit_part(bytes, refusal) {
+    if let Some(pointed) = known_part(bytes, refusal) {
         let sentence = pointed.sentence;
         let sentence = format!(in alloc; "{sentence}")?;
         let text = located(alloc, path, bytes, pointed.place, Label::Error, &sentence)?;

@@ -1,13 +1,13 @@
 -- Conditions of a part: each is in the table, uses the variables that it counts, and they are few.
-use Rattle.std.proofs.Common.{◌≡◌, ℕ, zero, suc, ◌+◌, ◌<◌, ◌≤◌, ◌==◌, cond, Bool, true, false, List, [], ◌∷◌, map, length, get_or, slice_get, Option, Some, None, IfSome, option_map, refl, sym, ap, ap₂, ◌∙◌, subst, arith}
+use Rattle.std.proofs.Common.{◌≡◌, ℕ, zero, suc, ◌+◌, ◌<◌, ◌≤◌, ◌==◌, cond, Bool, true, false, List, [], ◌∷◌, map, length, get_or, slice_get, Option, Some, None, IfSome, option_map, refl, sym, ap, ◌∙◌, subst, arith}
 use Rattle.std.specs.Borrow.{Bor}
 use Rattle.lc_base.specs.Limits.{file_limit}
 use Rattle.lc_cert.specs.Certificates.{Entry, HaveFewSteps, proof_at}
-use Rattle.lc_check.proofs.Walking.{all_bounded, still_known}
+use Rattle.lc_check.proofs.Walking.{all_bounded}
 use Rattle.lc_check.specs.Answers.{IsBounded}
 use Rattle.lc_cond.specs.Conditions as S
 use Rattle.lc_cond.specs.Conditions.{conditions}
-use Rattle.lc_cond.specs.ConditionView.{condition_in, kind_of, place_of, AreConditions, IsCondition}
+use Rattle.lc_cond.specs.ConditionView.{condition_in, AreConditions, IsCondition}
 use Rattle.lc_cond.specs.Numbering.{StandFrom}
 use Rattle.lc_cond.specs.Uses.{UsesItsVariables}
 use Rattle.lc_cond.specs.VariableCounts.{HasFewVariables}
@@ -17,10 +17,11 @@ use Rattle.lc_kernel.specs.Proofs.{size}
 use Rattle.lc_kernel.specs.View.{proof_of}
 use Rattle.lc_kernel.specs.declared.proof.Proof.{Proof}
 use Rattle.lc_outline.specs.Development.{Development}
-use Rattle.lc_table.proofs.Later.{formula_still, formulas_still}
 use Rattle.lc_table.specs.NodeTables.{Table}
 use Rattle.lc_table.specs.Tables.{Keeps}
 use Rattle.lc_term.specs.Lists.{Every}
+use Rattle.lc_cond.proofs.Adding.{are_later, condition_still}
+use Rattle.lc_cond.proofs.Sized.{every_at}
 
 -- ---- what holds of each holds of the one at a place
 
@@ -34,36 +35,25 @@ seen_at ts [] i c all lt is = absurd (omega (arith, lt))
 seen_at ts (d ∷ cs) zero c all lt is = subst (λ x. IsBounded (condition_in ts x)) (sym is) all.0
 seen_at ts (d ∷ cs) (suc i) c all lt is = seen_at ts cs i c all.1 (omega (arith, lt)) is
 
-got : {X : Type 0} (P : X → Type 0) (xs : List X) (i : ℕ) (x : X) → Every P xs → slice_get xs i ≡ Some x → P x
-got P [] i x all is = cc
-got P (y ∷ xs) zero x all is = let same : y ≡ x = cc in subst P same all.0
-got P (y ∷ xs) (suc i) x all is = got P xs i x all.1 is
-
 -- ---- those of a part
 
 from_place : (n : ℕ) (xs all : List S.Condition) → Every IsBounded all → StandFrom n xs all → Every IsBounded xs
 from_place n [] all bounded stand = tt
 from_place n (x ∷ xs) all bounded stand = (
-  got IsBounded all (n + 0) x bounded (stand 0 x refl),
+  every_at IsBounded all (n + 0) x bounded (stand 0 x refl),
   from_place (suc n) xs all bounded (λ j y is. ap (slice_get all) (omega arith) ∙ stand (suc j) y is),
 )
 
 pub part_bounded : (D : Development) (n : ℕ) (xs : List S.Condition) → Every UsesItsVariables (conditions D) → Every HasFewVariables (conditions D) → StandFrom n xs (conditions D) → Every IsBounded xs
 part_bounded D n xs uses few stand = from_place n xs (conditions D) (all_bounded (conditions D) uses few) stand
 
--- in a later table
-same_later : (old new : Table) (c : Condition) → IsCondition old c → Keeps old new → condition_in new c ≡ condition_in old c
-same_later old new c known kept =
-    ap₂ (λ hs g. record { kind = kind_of c.kind; place = place_of c.place; variables = c.goal.vars; hypotheses = hs; goal = g })
-    (formulas_still old new c.goal.hypotheses known.0 kept) (formula_still old new c.goal.goal known.1 kept)
-
 pub one_known : (old new : Table) (cs : List Condition) (i : ℕ) (c : Condition) → AreConditions old cs → Keeps old new → i < length cs → c ≡ get_or cs i c → IsCondition new c
-one_known old new cs i c are kept lt is = at_place (IsCondition new) cs i c (still_known old new cs are kept) lt is
+one_known old new cs i c are kept lt is = at_place (IsCondition new) cs i c (are_later old new cs are kept) lt is
 
 pub one_bounded : (old new : Table) (cs : List Condition) (i : ℕ) (c : Condition) → AreConditions old cs → Keeps old new → Every IsBounded (map (condition_in old) cs) → i < length cs → c ≡ get_or cs i c
     → IsBounded (condition_in new c)
 one_bounded old new cs i c are kept all lt is =
-    subst IsBounded (sym (same_later old new c (at_place (IsCondition old) cs i c are lt is) kept)) (seen_at old cs i c all lt is)
+    subst IsBounded (sym (condition_still old new c (at_place (IsCondition old) cs i c are lt is) kept)) (seen_at old cs i c all lt is)
 
 -- ---- proofs of a certificate
 

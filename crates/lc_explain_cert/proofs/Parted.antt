@@ -2,7 +2,7 @@
 use Rattle.std.proofs.Common.{◌≡◌, ℕ, zero, suc, ◌-◌, List, [], ◌∷◌, ◌++◌, take, drop, length, refl, sym, ap, ap₂, ◌∙◌, append_assoc, append-nil, arith}
 use Rattle.std.proofs.lemmas.List.{length-drop, map-append, take_all, take-map, drop-map}
 use Rattle.lc_kernel.specs.Proofs as P
-use Rattle.lc_standing.specs.Standing.{Stands, stands_here, stands_below, StandsAmong, StandsGoal, in_first, in_later}
+use Rattle.lc_proof_state.specs.Standing.{Stands, stands_here, stands_below, StandsAmong, StandsGoal, in_first, in_later}
 use Rattle.lc_term.specs.Syntax as S
 use Rattle.lc_term.specs.View.{formula_of, formulas_of}
 use Rattle.lc_term.specs.declared.formula.Formula.{Formula}

@@ -1,7 +1,7 @@
 -- By which names columns and free variables are shown.
 use Rattle.std.specs.Prelude.{ℕ, List, [], ◌∷◌, ◌++◌, Option, Some, None, codes, slice_get}
 use Rattle.std.specs.Fmt.{decimal}
-use Rattle.lc_naming.specs.ColumnNames.{name_at}
+use Rattle.lc_outline.specs.ColumnNames.{name_at}
 use Rattle.lc_reading.specs.Words.{names_in}
 use Rattle.lc_text.specs.Spelling.{Spelled}
 use Rattle.lc_explain_cert.specs.declared.names.Names.{Names}

@@ -3,7 +3,7 @@ use crate::failing::push_number;
 use crate::names::Names;
 use lc_base::OutOfMemory;
 use lc_cond::Kind;
-use lc_failing::{Decisive, Told, decisive_in, stored_by, stored_in};
+use lc_proof_state::{Decisive, Told, decisive_in, stored_by, stored_in};
 use lc_term::{ColExpr, Formula, Term, Write};
 use lc_text::write_formula;
 use std::alloc::Global;

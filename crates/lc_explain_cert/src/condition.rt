@@ -3,8 +3,7 @@ use crate::naming::{action_at_edge, action_name, conjunct_name, next_name, point
 use crate::path::push_path;
 use lc_base::OutOfMemory;
 use lc_cond::{Condition, Kind, Passage, Place, Which};
-use lc_naming::{column_name, edge_word};
-use lc_outline::{Development, Parts};
+use lc_outline::{Development, Parts, column_name, edge_word};
 use lc_rider::Owing;
 use std::alloc::Global;
 

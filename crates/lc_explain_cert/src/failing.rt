@@ -2,11 +2,13 @@
 ghost use Rattle.lc_table.specs.Tables.{IsFormula, AreFormulas};
 
 use crate::after::push_decisive;
+use crate::looked::broken_hypothesis;
 use crate::names::Names;
 use lc_base::OutOfMemory;
 use lc_cond::Kind;
-use lc_failing::{Failing, Numbered, Told, content_words, tell, words_of};
+use lc_copy::{formula_tree, formula_trees};
 use lc_kernel::Goal;
+use lc_proof_state::{Failing, Numbered, Told, content_words, tell, words_of};
 use lc_search::{Counted, CounterModel};
 use lc_table::Terms;
 use lc_term::{ColExpr, Term};
@@ -38,6 +40,18 @@ fn push_counted(
         writeln!(text, " is {numerator}")?;
     } else {
         writeln!(text, " is {numerator}/{denominator}")?;
+    }
+    Ok(())
+}
+
+/// The numbers of a model, as the search reported them.
+fn push_model(
+    text: &mut String,
+    names: &Names<'_>,
+    model: &CounterModel,
+) -> Result<(), OutOfMemory> {
+    for counted in &model.numbers {
+        push_counted(text, names, counted)?;
     }
     Ok(())
 }
@@ -80,8 +94,8 @@ fn push_told(
     Ok(())
 }
 
-/// The numbers of a model of the goal of a condition of this kind: as a state, with what decides there that the goal fails, if it does; else
-/// as the search reported them.
+/// The numbers of a model of the goal of a condition of this kind: as a state, with what decides there that the goal fails, if it does and no
+/// hypothesis with quantifiers is seen not to hold; else as the search reported them.
 pub(crate) fn model_text(
     alloc: Global,
     names: &Names<'_>,
@@ -93,8 +107,8 @@ pub(crate) fn model_text(
     requires hypotheses { AreFormulas terms.now goal.now.hypotheses }
     requires goal { IsFormula terms.now goal.now.goal }
 {
-    let hypotheses = terms.formulas(alloc, goal.hypotheses.as_slice())?;
-    let claim = terms.formula(alloc, goal.goal)?;
+    let hypotheses = formula_trees(terms, alloc, goal.hypotheses.as_slice())?;
+    let claim = formula_tree(terms, alloc, goal.goal)?;
     let numbers = whole_numbers(alloc, &model.numbers)?;
     let columns = u32::try_from(names.columns.len()).unwrap_or(0);
     let witnesses = &model.witnesses;
@@ -108,17 +122,19 @@ pub(crate) fn model_text(
         &claim,
     )?;
     let mut text = String::new(alloc);
-    writeln!(text, "  {}:", words_of(told.failing))?;
-    match told.failing {
-        Failing::Fails | Failing::FailsButForQuantifiers => {
-            push_told(alloc, &mut text, names, goal.vars, &told)?;
-            push_decisive(alloc, &mut text, names, kind, &told)?;
-        }
-        Failing::Unknown => {
-            for counted in &model.numbers {
-                push_counted(&mut text, names, counted)?;
-            }
-        }
+    if told.failing == Failing::Unknown {
+        writeln!(text, "  {}:", words_of(Failing::Unknown))?;
+        push_model(&mut text, names, model)?;
+        return Ok(text);
     }
+    if let Some(place) = broken_hypothesis(alloc, &told, &hypotheses)? {
+        let words = words_of(Failing::Unknown);
+        writeln!(text, "  {words} (hypothesis {place} does not hold there):")?;
+        push_model(&mut text, names, model)?;
+        return Ok(text);
+    }
+    writeln!(text, "  {}:", words_of(told.failing))?;
+    push_told(alloc, &mut text, names, goal.vars, &told)?;
+    push_decisive(alloc, &mut text, names, kind, &told)?;
     Ok(text)
 }

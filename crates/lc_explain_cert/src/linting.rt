@@ -1,7 +1,9 @@
-//! What is seldom meant in a development: a call that may return without a mark, and an action that no edge names.
+//! What is seldom meant in a development: a call that may return without a mark, an action that no edge names, and a guard that serves
+//! nothing.
 use crate::naming::{action_name, has_edge, operation_name, point_at, point_name, target_of};
 use crate::reach::Reached;
 use crate::source::{Source, push_part};
+use crate::unseen::push_unseen;
 use lc_base::{OpId, OutOfMemory, PointId};
 use lc_cond::on_at;
 use lc_explain::Part;
@@ -161,8 +163,8 @@ fn push_unnamed(
     Ok(())
 }
 
-/// What is seldom meant in a development, with the places in its file: calls that may return without a mark, and actions that no edge
-/// names.
+/// What is seldom meant in a development, with the places in its file: calls that may return without a mark, actions that no edge
+/// names, and guards of actions of which no other client can see what they store.
 pub fn lints(
     alloc: Global,
     source: Source<'_>,
@@ -171,5 +173,6 @@ pub fn lints(
     let mut text = Vec::new(alloc);
     push_unmarked(alloc, &mut text, source, development)?;
     push_unnamed(alloc, &mut text, source, development)?;
+    push_unseen(alloc, &mut text, source, development)?;
     Ok(text)
 }

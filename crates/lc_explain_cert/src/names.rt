@@ -2,8 +2,7 @@
 use crate::naming::point_at;
 use lc_base::{ColId, Name, OutOfMemory};
 use lc_cond::{Condition, Passage};
-use lc_naming::column_names;
-use lc_outline::Parts;
+use lc_outline::{Parts, column_names};
 use lc_text::Spelling;
 use std::alloc::Global;
 

@@ -2,7 +2,7 @@
 use crate::names::Names;
 use lc_base::OutOfMemory;
 use lc_kernel::{Multiple, Reason, Step};
-use lc_standing::Standing;
+use lc_proof_state::Standing;
 use lc_term::Formula;
 use lc_text::write_formula;
 use std::alloc::Global;

@@ -3,8 +3,7 @@ use crate::naming::{action_at_edge, action_name, next_name, point_name};
 use lc_base::OutOfMemory;
 use lc_cond::{Condition, Kind, Passage, Place as Standing, Which};
 use lc_explain::{Label, Part, located, part_place};
-use lc_naming::{column_name, edge_word};
-use lc_outline::{Development, Parts};
+use lc_outline::{Development, Parts, column_name, edge_word};
 use lc_place::Place;
 use std::alloc::Global;
 
@@ -13,6 +12,23 @@ use std::alloc::Global;
 pub struct Source<'a> {
     pub path: &'a str,
     pub bytes: &'a [u8],
+}
+
+/// What a condition asks for, and where.
+#[derive(Clone, Copy)]
+pub(crate) struct About {
+    pub kind: Kind,
+    pub place: Standing,
+}
+
+impl About {
+    /// What a condition asks for, and where.
+    pub(crate) fn of(condition: &Condition) -> About {
+        About {
+            kind: condition.kind,
+            place: condition.place,
+        }
+    }
 }
 
 /// The number of a conjunct or of a rider that a condition is about.
@@ -73,12 +89,12 @@ fn rider_of<'a>(parts: &'a Parts, place: &Standing) -> Option<Part<'a>> {
 }
 
 /// The part of the file that is to hold by a condition.
-fn claim_of<'a>(development: &'a Development, condition: &Condition) -> Option<Part<'a>> {
+fn claim_of<'a>(development: &'a Development, about: About) -> Option<Part<'a>> {
     let parts = development.parts();
-    let place = &condition.place;
+    let place = &about.place;
     let number = number_of(place.which);
     let action = action_at_edge(development, place);
-    match condition.kind {
+    match about.kind {
         Kind::Init | Kind::Entry | Kind::Invariant => Some(Part::Invariant(number)),
         Kind::InitIdle => Some(Part::Idle(number)),
         Kind::First | Kind::Stable => Some(conjunct_of(point_of(parts, place), number)),
@@ -91,15 +107,15 @@ fn claim_of<'a>(development: &'a Development, condition: &Condition) -> Option<P
 }
 
 /// The part of the file at which a condition is: a point, or the action of another client.
-fn step_of<'a>(development: &'a Development, condition: &Condition) -> Option<Part<'a>> {
+fn step_of<'a>(development: &'a Development, about: About) -> Option<Part<'a>> {
     let parts = development.parts();
-    let place = &condition.place;
+    let place = &about.place;
     if let Passage::Action(action) = place.passage {
         return Some(Part::Action(action_name(parts, action)));
     }
     match place.point {
         Some(point) => Some(Part::Point(point_name(parts, point))),
-        None => claim_of(development, condition),
+        None => claim_of(development, about),
     }
 }
 
@@ -139,9 +155,9 @@ fn claim_in(source: Source<'_>, part: Part<'_>) -> Claim {
 pub(crate) fn claim_place(
     source: Source<'_>,
     development: &Development,
-    condition: &Condition,
+    about: About,
 ) -> Option<Place> {
-    part_place(source.bytes, claim_of(development, condition)?)
+    part_place(source.bytes, claim_of(development, about)?)
 }
 
 /// What is said of what is to hold, if it is there.
@@ -218,12 +234,12 @@ fn claim_sentence(
     alloc: Global,
     bytes: &[u8],
     development: &Development,
-    condition: &Condition,
+    about: About,
     claim: Claim,
 ) -> Result<String, OutOfMemory> {
-    let kind = condition.kind;
+    let kind = about.kind;
     if matches!(kind, Kind::Column) && !claim.is_there {
-        return lacking_words(alloc, development.parts(), condition.place.which);
+        return lacking_words(alloc, development.parts(), about.place.which);
     }
     let words = if matches!(kind, Kind::Next) && says_marked(bytes, claim.place) {
         "this is to hold after the step: pend is 2 after a mark, as (lin)"
@@ -239,19 +255,19 @@ pub(crate) fn push_places(
     text: &mut Vec<u8>,
     source: Source<'_>,
     development: &Development,
-    condition: &Condition,
+    about: About,
     label: Label,
     sentence: &str,
 ) -> Result<(), OutOfMemory> {
-    let step = step_of(development, condition).and_then(|part| part_place(source.bytes, part));
+    let step = step_of(development, about).and_then(|part| part_place(source.bytes, part));
     push_located(alloc, text, source, step, label, sentence)?;
-    if matches!(condition.kind, Kind::Init | Kind::InitIdle) {
+    if matches!(about.kind, Kind::Init | Kind::InitIdle) {
         return Ok(());
     }
-    let Some(claim) = claim_of(development, condition) else {
+    let Some(claim) = claim_of(development, about) else {
         return Ok(());
     };
     let claim = claim_in(source, claim);
-    let sentence = claim_sentence(alloc, source.bytes, development, condition, claim)?;
+    let sentence = claim_sentence(alloc, source.bytes, development, about, claim)?;
     push_located(alloc, text, source, claim.place, Label::Note, &sentence)
 }

@@ -3,7 +3,7 @@ ghost use Rattle.std.specs.Prelude.{◌≡◌, ◌+◌, ◌++◌, ◌∷◌, [],
 ghost use Rattle.lc_kernel.specs.Proofs as P;
 ghost use Rattle.lc_kernel.specs.Proofs.{size};
 ghost use Rattle.lc_kernel.specs.View.{proof_of};
-ghost use Rattle.lc_standing.specs.Standing.{IsStanding, StandsGoal};
+ghost use Rattle.lc_proof_state.specs.Standing.{IsStanding, StandsGoal};
 ghost use Rattle.lc_table.specs.Tables.{formula_in, formulas_in, IsFormula, AreFormulas};
 ghost use Rattle.lc_term.specs.Syntax as S;
 ghost use Rattle.lc_term.specs.View.{formula_of, formulas_of};
@@ -13,8 +13,9 @@ ghost use Rattle.lc_explain_cert.specs.State.{IsShown, group, line, numbered, sh
 use crate::names::Names;
 use crate::reason::reason_text;
 use lc_base::OutOfMemory;
+use lc_copy::{formula_tree, formula_trees};
 use lc_kernel::{Goal, Proof, Reason};
-use lc_standing::{Standing, stands_at};
+use lc_proof_state::{Standing, stands_at};
 use lc_table::{FormulaId, Terms};
 use lc_term::Formula;
 use lc_text::write_formula;
@@ -118,8 +119,8 @@ fn standing_of<'a>(
     if most > u64::from(u32::MAX) {
         return Ok(None);
     }
-    let hypotheses = terms.formulas(alloc, goal.hypotheses.as_slice())?;
-    let claim = terms.formula(alloc, goal.goal)?;
+    let hypotheses = formula_trees(terms, alloc, goal.hypotheses.as_slice())?;
+    let claim = formula_tree(terms, alloc, goal.goal)?;
     stands_at(alloc, goal.vars, &hypotheses, &claim, proof, step)
 }
 
@@ -159,7 +160,7 @@ fn negated(alloc: Global, terms: &Terms, formula: FormulaId) -> Result<Formula, 
     requires { IsFormula terms.now formula }
     ensures { IfOk result (λ made. formula_of made ≡ S.Not (formula_in terms.now formula)) }
 {
-    let formula = Box::new(alloc, terms.formula(alloc, formula)?)?;
+    let formula = Box::new(alloc, formula_tree(terms, alloc, formula)?)?;
     Ok(Formula::Not(formula))
 }
 
@@ -174,7 +175,7 @@ pub(crate) fn goal_text(
     requires goal { IsFormula terms.now goal.now.goal }
     ensures { IfOk result (λ text. string_bytes text ≡ shown_state (spelled names.now) (formulas_in terms.now goal.now.hypotheses) (S.Not (formula_in terms.now goal.now.goal)) []) }
 {
-    let mut all = terms.formulas(alloc, goal.hypotheses.as_slice())?;
+    let mut all = formula_trees(terms, alloc, goal.hypotheses.as_slice())?;
     all.push(negated(alloc, terms, goal.goal)?)?;
     let mut text = String::new(alloc);
     push_state(&mut text, names, count_of(goal), &all)?;

@@ -1,5 +1,5 @@
 //! The calls and returns of clients, by their numbers.
-use lc_hist::{Done, Event};
+use lc_history::{Done, Event};
 
 /// How many of the entries before a place are of a client.
 pub(crate) fn entries_before<C, H, R>(order: &[Done<C, H, R>], place: usize, client: u32) -> usize {

@@ -5,7 +5,8 @@ use crate::sentence::Sentence;
 use crate::shape::say_shape;
 use crate::told::Told;
 use lc_base::{Fault, OutOfMemory, Refusal};
-use lc_hist::{Reason, history_from_json};
+use lc_hist::history_from_json;
+use lc_history::Reason;
 use lc_seq::TextSpec;
 use std::alloc::Global;
 

@@ -6,7 +6,7 @@ use crate::tally::Tally;
 use crate::told::{Row, Told};
 use lc_base::OutOfMemory;
 use lc_explain::Label;
-use lc_hist::{Done, Event, Reason};
+use lc_history::{Done, Event, Reason};
 use lc_seq::{Pick, TextCall, TextSpec};
 use std::alloc::Global;
 

@@ -2,7 +2,7 @@
 ghost use Rattle.std.specs.Prelude.{◌≡◌};
 
 use lc_base::OutOfMemory;
-use lc_hist::Done;
+use lc_history::Done;
 use lc_seq::{SeqFault, SeqObject};
 use std::alloc::Global;
 

@@ -1,7 +1,7 @@
 //! How many of something each client has.
 use indexmap::IndexMap;
 use lc_base::OutOfMemory;
-use lc_hist::Done;
+use lc_history::Done;
 use std::alloc::Global;
 
 /// A count for each client.

@@ -1,5 +1,5 @@
 //! What is wrong with an event or an entry of a history.
-use lc_base::CLIENT_LIMIT;
+use lc_history::CLIENT_LIMIT;
 use lc_seq::{Operation, TextSpec};
 use serde_json::Value;
 use std::fmt;

@@ -9,10 +9,10 @@ mod splitting;
 mod undoing;
 
 use crate::fact::{Fact, FactId, Made, Place, ProofId, Step};
-use crate::nodes::Nodes;
 use indexmap::{IndexMap, IndexSet};
 use lc_base::ColId;
 use lc_farkas::{Stop, Tableau};
+use lc_nodes::Nodes;
 use lc_table::{FormulaId, TermId};
 use std::alloc::Global;
 pub use undoing::{Mark, Trial};

@@ -4,6 +4,9 @@ use crate::rational::Rational;
 use crate::stop::Stop;
 use std::alloc::Global;
 
+/// With so many summands a row takes twice the work of a short one.
+const AT_HAND: usize = 64;
+
 /// A multiple of a variable.
 #[derive(Clone, Copy)]
 pub(crate) struct Summand {
@@ -34,6 +37,11 @@ impl Row {
             basic,
             summands: Vec::new(alloc),
         }
+    }
+
+    /// The work of a look at it: one that is long is not at hand.
+    pub(crate) fn look(&self) -> usize {
+        1 + self.summands.len() / AT_HAND
     }
 
     /// The coefficient of a variable in it.

@@ -93,7 +93,7 @@ impl Tableau {
         }
     }
 
-    /// Allows this much work from now on: a unit is a row, or a summand of one, that is looked at.
+    /// Allows this much work from now on: a unit is a short row, or a summand of one, that is looked at.
     pub fn allow(&mut self, work: u64) {
         self.work = work;
     }
@@ -104,14 +104,19 @@ impl Tableau {
         Ok(())
     }
 
-    fn row_count(&self) -> usize {
-        self.rows.len()
+    /// The work of a look at each row.
+    fn look(&self) -> usize {
+        let mut units: usize = 0;
+        for row in &self.rows {
+            units = units.saturating_add(row.look());
+        }
+        units
     }
 
     /// Counts a look at each row.
     fn spend_rows(&mut self) -> Result<(), Stop> {
-        let rows = self.row_count();
-        self.spend(rows)
+        let units = self.look();
+        self.spend(units)
     }
 
     /// Where `undo` goes back to: the bounds as they stand.

@@ -11,7 +11,7 @@ use Rattle.lc_find.specs.Found.{TakesFirst}
 use Rattle.lc_find.specs.GetsCarried.{GetsCarried}
 use Rattle.lc_kernel.specs.Proofs.{Proof}
 use Rattle.lc_outline.specs.Development.{Development}
-use Rattle.lc_rename.specs.RenamedProofs.{renamed}
+use Rattle.lc_carry.specs.RenamedProofs.{renamed}
 
 front-by : (b : Bool) (e : Entry) (o now : Option Proof) (p : Proof) → (o ≡ Some p → now ≡ Some p) → cond b (Some e.proof) o ≡ Some p → cond b (Some e.proof) now ≡ Some p
 front-by true e o now p h at = at

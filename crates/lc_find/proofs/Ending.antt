@@ -1,5 +1,5 @@
 -- The certificate of proofs that were taken, or why none is given.
-use Rattle.std.proofs.Common.{◌≡◌, ℕ, ◌+◌, inl, inr, List, [], ◌∷◌, ◌++◌, length, append-nil, None, Some, take, sym, ◌∙◌, subst, arith}
+use Rattle.std.proofs.Common.{◌≡◌, ℕ, ◌+◌, inl, inr, List, [], ◌∷◌, ◌++◌, length, append-nil, None, take, sym, ◌∙◌, subst, arith}
 use Rattle.std.specs.Prelude.{Result, Ok, Err, IfOk, IfErr, true}
 use Rattle.lc_term.specs.Lists.{Every}
 use Rattle.lc_outline.specs.Development.{Development}
@@ -20,11 +20,9 @@ use Rattle.lc_find.specs.Found.{TakesFirst, IsNoCertificate, IsByHints, Finds, A
 use Rattle.lc_find.specs.Hinted.{by_entries, IsFirstHint}
 use Rattle.lc_find.specs.declared.fault.FindFault.{FindFault}
 use Rattle.lc_find.specs.declared.fault.FindFault.TheVariants.{NotFound, Budget, Large, OutOfMemory}
+use Rattle.lc_check.proofs.Stepping.{nothing_extra}
 
 -- ---- the text is read back
-
-nothing_extra : (n j : ℕ) → IsExtra n [] j → ⊥
-nothing_extra n j x = let none : None ≡ Some x.proof = x.stands in cc
 
 pub proves_all : (es : List Entry) (cs : List S.Condition) → ProveInTurn 0 es cs → ProvesAll es cs
 proves_all es cs h =

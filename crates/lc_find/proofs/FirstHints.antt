@@ -1,14 +1,13 @@
 -- Conditions and the first proofs that hints have for them.
-use Rattle.std.proofs.Common.{◌≡◌, ℕ, zero, suc, ◌+◌, ◌<◌, ◌≤◌, Bool, true, false, cond, List, [], ◌∷◌, ◌++◌, length, Some, None, slice_get, take, refl, sym, ap, ap₂, ◌∙◌, subst, arith, add-zero, zero-add}
+use Rattle.std.proofs.Common.{◌≡◌, ℕ, zero, suc, ◌+◌, ◌<◌, Bool, true, false, cond, List, [], ◌∷◌, ◌++◌, length, Some, None, slice_get, take, refl, sym, ap, ap₂, ◌∙◌, subst, arith, add-zero, zero-add}
 use Rattle.std.proofs.Math.Seq.{take-append_seam}
 use Rattle.std.proofs.lemmas.Bool.{eqb-true}
 use Rattle.std.specs.Prelude.{◌==◌}
 use Rattle.lc_base.specs.declared.refusal.Refusal.{Refusal}
-use Rattle.lc_base.specs.Limits.{file_limit}
 use Rattle.lc_term.specs.Lists.{Every}
-use Rattle.lc_kernel.specs.Proofs.{Proof, size}
+use Rattle.lc_kernel.specs.Proofs.{Proof}
 use Rattle.lc_outline.specs.Development.{Development}
-use Rattle.lc_cert.specs.Certificates.{Entry, proof_at, HaveFewSteps}
+use Rattle.lc_cert.specs.Certificates.{Entry, proof_at}
 use Rattle.lc_cert.specs.Printed.{EntryReadsBack}
 use Rattle.lc_cond.specs.Conditions.{Condition, conditions}
 use Rattle.lc_check.proofs.LeastExtra.{at_first, at_other}
@@ -128,18 +127,6 @@ hinted_each D hs k lt h =
     (c, at, proved_at D hs k c h at)
 
 -- ---- what holds of each proof
-
-few_first : (e : Entry) (hs : List Entry) (k : ℕ) (p : Proof) → size e.proof ≤ file_limit → (proof_at hs k ≡ Some p → size p ≤ file_limit) → (b : Bool) → cond b (Some e.proof) (proof_at hs k) ≡ Some p → size p ≤ file_limit
-few_first e hs k p h later true at =
-    let found : Some e.proof ≡ Some p = at in
-    let proof : e.proof ≡ p = cc in
-    subst (λ q. size q ≤ file_limit) proof h
-few_first e hs k p h later false at = later at
-
--- it has few steps
-pub few_at : (hs : List Entry) (k : ℕ) (p : Proof) → HaveFewSteps hs → proof_at hs k ≡ Some p → size p ≤ file_limit
-few_at [] k p h at = absurd (let none : None ≡ Some p = at in cc)
-few_at (e ∷ hs) k p h at = few_first e hs k p h.0 (few_at hs k p h.1) (e.number == k) at
 
 -- it reads back
 reads_first : (D : Development) (e : Entry) (hs : List Entry) (k : ℕ) (p : Proof) → EntryReadsBack D e → (proof_at hs k ≡ Some p → EntryReadsBack D (record { number = k; proof = p })) → (b : Bool) → (e.number == k) ≡ b

@@ -1,7 +1,7 @@
 -- The proofs of all conditions, taken in turn.
-use Rattle.std.proofs.Common.{◌≡◌, ℕ, suc, ◌<◌, Bool, true, List, [], ◌∷◌, length, length-append, append-nil, Option, Some, None, take, refl, sym, ap, ◌∙◌, subst, arith}
-use Rattle.std.proofs.lemmas.Bool.{lt-ltb}
-use Rattle.std.specs.Prelude.{Err, ◌&&◌}
+use Rattle.std.proofs.Common.{◌≡◌, ℕ, suc, ◌<◌, true, List, [], ◌∷◌, length, length-append, append-nil, Option, Some, None, take, refl, sym, ap, ◌∙◌, subst, arith}
+use Rattle.std.proofs.lemmas.Bool.{lt-ltb, and_from}
+use Rattle.std.specs.Prelude.{Err}
 use Rattle.lc_term.specs.Lists.{Every}
 use Rattle.lc_outline.specs.Development.{Development}
 use Rattle.lc_cert.specs.Certificates.{Entry, is_above, is_rising}
@@ -79,9 +79,6 @@ above_first : (last : Option ℕ) (k : ℕ) → ((n : ℕ) → last ≡ Some n �
 above_first None k h = refl
 above_first (Some n) k h = let lt = h n refl in lt-ltb n k lt
 
-and_true : (a b : Bool) → a ≡ true → b ≡ true → (a && b) ≡ true
-and_true a b p q = rw (p, q) refl
-
 some_below : (n m k : ℕ) → Some m ≡ Some n → m ≡ k → n < suc k
 some_below n m k s is = let same : m ≡ n = cc in omega (arith, same, is)
 
@@ -90,7 +87,7 @@ rising_from last k [] cs h below = refl
 rising_from last k (e ∷ es) [] h below = absurd h
 rising_from last k (e ∷ es) (c ∷ cs) h below =
     let is = h.0 in
-    and_true (is_above last e.number) (is_rising (Some e.number) es)
+    and_from (is_above last e.number) (is_rising (Some e.number) es)
     (above_first last e.number (λ n s. let lt = below n s in omega (arith, lt, is)))
     (rising_from (Some e.number) (suc k) es cs h.2 (λ n s. some_below n e.number k s is))
 

@@ -1,5 +1,5 @@
 -- The first places of proofs.
-use Rattle.std.proofs.Common.{◌≡◌, ◌≢◌, ℕ, suc, ◌+◌, ◌⊎◌, inl, inr, Bool, true, false, cond, List, [], ◌∷◌, ◌++◌, Option, Some, None, option_map, slice_get, refl, sym, ap, ◌∙◌, arith}
+use Rattle.std.proofs.Common.{◌≡◌, ◌≢◌, ℕ, suc, ◌⊎◌, inl, inr, Bool, true, false, cond, List, [], ◌∷◌, ◌++◌, Option, Some, None, option_map, slice_get, refl, sym, ap, ◌∙◌}
 use Rattle.std.proofs.lemmas.Bool.Decides.{eqb_tells}
 use Rattle.std.specs.Prelude.{◌==◌}
 use Rattle.std.specs.Option.{option_or}
@@ -27,10 +27,6 @@ by_first e es n (inr (there, other)) h =
 pub at_place : (es : List Entry) (n : ℕ) → proof_of_place es (place_at es n) ≡ proof_at es n
 at_place [] n = refl
 at_place (e ∷ es) n = by_first e es n (eqb_tells n e.number) (at_place es n)
-
-counted_on : (n : ℕ) (p : Option ℕ) → option_map (λ k. n + 1 + k) p ≡ option_map (λ k. n + k) (option_map suc p)
-counted_on n None = refl
-counted_on n (Some k) = ap Some (omega arith)
 
 -- what is not there
 pub none_of_map : {A B : Type 0} (f : A → B) (o : Option A) (p : Option B) → option_map f o ≡ p → ((x : A) → o ≡ Some x → ⊥) → p ≡ None

@@ -5,9 +5,9 @@ use Rattle.lc_carry.specs.CarriedDerives.{AreApart, IsSameCondition}
 use Rattle.lc_carry.specs.CarriedFrom.{IsCarriedFrom, IsLeast}
 use Rattle.lc_cert.specs.Certificates.{Entry, proof_at}
 use Rattle.lc_kernel.specs.Proofs.{Proof}
-use Rattle.lc_naming.specs.ColumnNames.{column_names}
+use Rattle.lc_outline.specs.ColumnNames.{column_names}
 use Rattle.lc_outline.specs.Development.{Development}
-use Rattle.lc_rename.specs.RenamedProofs.{renamed}
+use Rattle.lc_carry.specs.RenamedProofs.{renamed}
 
 -- if no two columns of D have one name, a condition of E that is the same as the one from which a proof is carried to it has that
 -- proof, with each column replaced

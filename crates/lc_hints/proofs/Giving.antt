@@ -1,5 +1,5 @@
 -- What hints give, if one more comes after them.
-use Rattle.std.proofs.Common.{◌≡◌, ℕ, ℤ, pos, negsuc, Bool, true, false, cond, List, [], ◌∷◌, ◌++◌, refl, sym, ap, ◌∙◌, append-nil, map}
+use Rattle.std.proofs.Common.{◌≡◌, ℕ, pos, Bool, true, false, cond, List, [], ◌∷◌, ◌++◌, refl, sym, ap, ◌∙◌, append-nil, map}
 use Rattle.std.specs.Prelude.{◌==◌}
 use Rattle.std.proofs.lemmas.List.{map-append}
 use Rattle.lc_term.specs.View.{term_of, formula_of, formulas_of}
@@ -8,10 +8,11 @@ use Rattle.lc_term.specs.declared.formula.Formula.{Formula as SeenFormula}
 use Rattle.lc_kernel.specs.View.{proof_of}
 use Rattle.lc_cert.specs.EntryView.{entry_of, entries_of}
 use Rattle.lc_cert.specs.declared.entry.Entry.{Entry}
-use Rattle.lc_hints.proofs.Joined.{joined_last, no_more}
-use Rattle.lc_hints.specs.Hints.{Hint, Advice, Use, Cut, By, is_for, proof_offered, terms_offered, formula_offered}
+use Rattle.lc_hints.proofs.Joined.{no_more}
+use Rattle.lc_hints.specs.Hints.{Hint, Use, Cut, By, is_for, proof_offered, terms_offered, formula_offered}
 use Rattle.lc_hints.specs.HintView.{items_at, proofs_given, terms_given, formulas_given, IsGiven}
 use Rattle.lc_hints.specs.declared.given.Given.{Given}
+use Rattle.lc_term.proofs.Lists.{joined_last}
 
 -- with what one more offers
 given_more : (hs : List Hint) (h : Hint) (old new : Given) → proofs_given new ≡ proofs_given old ++ proof_offered h.advice h.number

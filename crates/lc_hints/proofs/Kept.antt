@@ -23,14 +23,14 @@ use Rattle.lc_proof_text.specs.Proofs.{proof_reading}
 use Rattle.lc_outline.specs.Development.{Development}
 use Rattle.lc_cert.proofs.Spelled.{names_spelled}
 use Rattle.lc_cert.specs.Certificates.{Entry, HaveFewSteps}
-use Rattle.lc_naming.specs.ColumnNames.{column_names}
+use Rattle.lc_outline.specs.ColumnNames.{column_names}
 use Rattle.lc_cert.specs.ColumnNames.{names_with, spelled_with}
 use Rattle.lc_cert.specs.Printed.{EntryReadsBack}
-use Rattle.lc_hints.proofs.Joined.{every_joined}
 use Rattle.lc_hints.specs.Hints.{Hint, proof_offered, proofs_of}
 use Rattle.lc_hints.specs.Readings.{use_hint, cut_hint, by_hint, head_of, terms_due, use_reading, cut_parts_reading, cut_reading, by_parts_reading, by_reading, hint_with, hint_reading, form_reading, hints_reading}
 use Rattle.lc_hints.specs.declared.reading.Head.{Head}
 use Rattle.lc_hints.specs.declared.reading.Head.TheVariants as H
+use Rattle.lc_term.proofs.Lists.{every_joined}
 
 -- what holds of each item that is read, with at most `most` items
 each_fine : {X : Type 0} (P : X → Type 0) (most : ℕ) (read : ℕ → Tree → Reading X) (m : ℕ) (ts : Trees) → ((n : ℕ) (t : Tree) → item_count t ≤ most → IfFine (read n t) P)

@@ -3,7 +3,7 @@ use Rattle.std.proofs.Common.{◌≡◌, ℕ, ◌+◌, List, refl}
 use Rattle.lc_sexp.specs.Trees.{Tree, Trees, ◌▸◌, item_count, item_count_of_all}
 use Rattle.lc_proof_text.specs.Files.{only}
 use Rattle.lc_outline.specs.Development.{Development}
-use Rattle.lc_naming.specs.ColumnNames.{column_names}
+use Rattle.lc_outline.specs.ColumnNames.{column_names}
 use Rattle.lc_cert.specs.ColumnNames.{names_with}
 use Rattle.lc_hints.specs.Readings.{use_hint, terms_due, use_reading, form_reading, hints_reading}
 

@@ -13,7 +13,7 @@ use Rattle.lc_kernel.specs.Proofs.{Proof}
 use Rattle.lc_proof_text.specs.Files.{only}
 use Rattle.lc_proof_text.specs.Proofs.{proof_reading}
 use Rattle.lc_outline.specs.Development.{Development}
-use Rattle.lc_naming.specs.ColumnNames.{column_names}
+use Rattle.lc_outline.specs.ColumnNames.{column_names}
 use Rattle.lc_cert.specs.ColumnNames.{names_with}
 use Rattle.lc_hints.specs.Hints.{Hint, Use, Cut, By}
 use Rattle.lc_hints.specs.declared.reading.Head.{Head}

@@ -22,8 +22,7 @@ use crate::hints::Hints;
 use lc_base::Fault;
 use lc_cert::{InCertificate, table_of};
 use lc_kernel::Proof;
-use lc_naming::column_names;
-use lc_outline::Development;
+use lc_outline::{Development, column_names};
 use lc_proof_text::read_proof;
 use lc_reading::{
     NameTable, Part, Pass, ReadFault, Reads, behind_word, both, ended, headed, next_part, one,

@@ -9,12 +9,12 @@ use Rattle.lc_base.specs.Limits.{file_limit}
 use Rattle.serde_json.specs.Data.{Data}
 use Rattle.serde_json.specs.Read.{read}
 use Rattle.lc_seq.specs.Specification.{Operation}
-use Rattle.lc_hist.specs.History.{Event, Entry}
+use Rattle.lc_history.specs.History.{Event, Entry}
 use Rattle.lc_hist.specs.JsonHistories.{Parts, parts_in, HasParts, IsNext, AreEvents, AreEntries, IsFirstWrongEvent, IsFirstWrongEntry, IsWrongItem, SaysHistory}
 use Rattle.lc_hist.specs.JsonRecorded.{recorded_in, HasRecorded, IsWrongRecordedItem, SaysRecorded}
 use Rattle.lc_hist.specs.JsonSeen.{may_follow}
 use Rattle.lc_hist.specs.JsonValues.{all_in, event_in, entry_in}
-use Rattle.lc_hist.specs.WellFormed.{client_of}
+use Rattle.lc_history.specs.WellFormed.{client_of}
 use Rattle.lc_hist.proofs.JsonAnswers.{no_form}
 use Rattle.lc_hist.proofs.JsonOnce.{SaysBy, IsWrongBy}
 use Rattle.lc_hist.proofs.JsonEvents.{AreOpen, table_by, table_next, next_event, take_front, open_next, may_follow_busy, is_next, is_no_next, within_limit}

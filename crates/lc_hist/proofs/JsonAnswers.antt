@@ -1,5 +1,5 @@
 -- What is returned for JSON texts.
-use Rattle.std.proofs.Common.{◌≡◌, ℕ, ℤ, zero, suc, ◌+◌, ◌<◌, ◌≤◌, ◌==◌, eqb-true, Bool, true, false, List, [], ◌∷◌, ◌++◌, Option, None, option_and_then, Some, Result, Ok, Err, MatchResult, take, slice_get, length, refl, ap, sym, subst, ◌∙◌, arith, inr}
+use Rattle.std.proofs.Common.{◌≡◌, ℕ, ℤ, zero, suc, ◌+◌, ◌<◌, ◌≤◌, ◌==◌, eqb-true, Bool, true, false, List, [], ◌∷◌, ◌++◌, Option, None, option_and_then, Some, Result, Ok, Err, MatchResult, take, length, refl, ap, sym, subst, ◌∙◌, arith, inr}
 use Rattle.std.specs.Prelude.{is_some, if◌then◌else◌, Vec}
 use Rattle.std.specs.declared.alloc.Global.{Global}
 use Rattle.std.proofs.lemmas.List.{length-append}
@@ -7,24 +7,26 @@ use Rattle.serde_json.specs.Data.{Data, Members}
 use Rattle.serde_json.specs.Events.{members_len}
 use Rattle.serde_json.specs.Find.{as_object}
 use Rattle.serde_json.specs.Read.{read}
+use Rattle.lc_lemmas.proofs.Lists.{get_last, get_in_front}
 use Rattle.lc_base.specs.declared.refusal.Fault.{Fault}
 use Rattle.lc_base.specs.declared.refusal.Fault.TheVariants.{Refused, OutOfMemory}
 use Rattle.lc_base.specs.declared.refusal.Refusal.TheVariants.{HistoryShape}
 use Rattle.lc_seq.specs.Specification.{Operation}
-use Rattle.lc_hist.specs.History.{Event, Entry}
+use Rattle.lc_history.specs.History.{Event, Entry}
 use Rattle.lc_seq.specs.declared.choice.Pick.{Pick}
 use Rattle.lc_seq.specs.declared.text_call.TextCall.{TextCall}
-use Rattle.lc_hist.specs.Histories.{events_in}
-use Rattle.lc_hist.specs.declared.event.Done.{Done}
-use Rattle.lc_hist.specs.declared.history.History.{History}
-use Rattle.lc_hist.specs.JsonHistories.{Parts, parts_of, parts_in, IsNext, AreNext, AreEvents, HasParts, IsRefusedAt, IsWrongItem, IsHistoryOf, SaysHistory, entries_view}
+use Rattle.lc_history.specs.Histories.{events_in}
+use Rattle.lc_history.specs.declared.event.Done.{Done}
+use Rattle.lc_history.specs.declared.history.History.{History}
+use Rattle.lc_hist.specs.JsonHistories.{Parts, parts_of, parts_in, IsNext, AreNext, AreEvents, HasParts, IsRefusedAt, IsWrongItem, IsHistoryOf, SaysHistory}
+use Rattle.lc_history.specs.View.{entries_view}
 use Rattle.lc_hist.specs.JsonRecorded.{recorded_of as recorded_parts, recorded_in, HasRecorded, SaysRecorded, IsWrongRecordedItem, IsRecordedOf}
 use Rattle.lc_hist.specs.JsonSeen.{HasValue, AreInParts, IsWrongInParts, IsWrongEventItem, IsWrongEntryItem}
 use Rattle.lc_hist.specs.JsonValues.{all_in, event_in, entry_in}
-use Rattle.lc_hist.specs.WellFormed.{IsInTurn, IsWellFormed}
-use Rattle.lc_hist.proofs.JsonEvents.{take_front, get_last}
+use Rattle.lc_history.specs.WellFormed.{IsInTurn, IsWellFormed}
+use Rattle.lc_hist.proofs.JsonEvents.{take_front}
 use Rattle.lc_hist.proofs.JsonLists.{stands_behind, all_in-length}
-use Rattle.lc_hist.proofs.Turns.{IsFront, front_next, well_formed}
+use Rattle.lc_history.proofs.Turns.{IsFront, front_next, well_formed}
 
 -- a refusal about which more is known
 pub refused_weaker : (P Q : ℕ → Type 0) (fault : Fault) → ((item : ℕ) → P item → Q item) → IsRefusedAt P fault → IsRefusedAt Q fault
@@ -63,11 +65,6 @@ wrong_event operations ds all rest item d events is right wrong at = (
 pub no_form : (operations : List Operation) (events : List Event) (d : Data) → event_in operations d ≡ None → (e : Event) → IsNext operations events d e → ⊥
 no_form operations events d none e next = let form = next.form in absurd (cc (none, form))
 
-front_get : {A : Type 0} (xs ys : List A) (i : ℕ) → i < length xs → slice_get (xs ++ ys) i ≡ slice_get xs i
-front_get [] ys i lt = absurd (omega arith)
-front_get (x ∷ xs) ys zero lt = refl
-front_get (x ∷ xs) ys (suc i) lt = front_get xs ys i (omega arith)
-
 front_take : {A : Type 0} (xs ys : List A) (i : ℕ) → i < length xs → take i (xs ++ ys) ≡ take i xs
 front_take [] ys i lt = absurd (omega arith)
 front_take (x ∷ xs) ys zero lt = refl
@@ -82,7 +79,7 @@ pub well_formed_next : (events : List Event) (e : Event) → IsWellFormed events
 well_formed_next events e formed turn =
     let all = events ++ e ∷ [] in
     let front : IsFront all (length events) = λ j f lt at.
-    subst (λ h. IsInTurn h f) (sym (front_take events (e ∷ []) j lt)) (formed.in_turn j f (sym (front_get events (e ∷ []) j lt) ∙ at)) in
+    subst (λ h. IsInTurn h f) (sym (front_take events (e ∷ []) j lt)) (formed.in_turn j f (sym (get_in_front events (e ∷ []) j lt) ∙ at)) in
     let here = subst (λ h. IsInTurn h e) (sym (take_front events (e ∷ []))) turn in
     well_formed all (length events + 1) (front_next all (length events) e front (get_last events e) here) (last_length events e)
 

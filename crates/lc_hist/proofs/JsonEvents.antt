@@ -4,16 +4,17 @@ use Rattle.std.specs.Prelude.{nat_le}
 use Rattle.std.proofs.lemmas.Bool.{leb-true}
 use Rattle.serde_json.specs.Data.{Data, Items}
 use Rattle.serde_json.specs.Find.{as_number, as_u64, as_array}
+use Rattle.lc_lemmas.proofs.Lists.{get_last}
 use Rattle.lc_base.specs.declared.ids.OpId.{OpId}
-use Rattle.lc_base.specs.Limits.{client_limit}
+use Rattle.lc_history.specs.Limits.{client_limit}
 use Rattle.lc_seq.specs.Sequential.{Call}
 use Rattle.lc_seq.specs.Specification.{Operation}
-use Rattle.lc_hist.specs.History.{Event, Called, Replied, pending_of, count}
+use Rattle.lc_history.specs.History.{Event, Called, Replied, pending_of, count}
 use Rattle.lc_hist.specs.JsonHistories.{IsNext, AreNext, IsCounted}
 use Rattle.lc_hist.specs.JsonSeen.{may_follow, opened, number_of}
 use Rattle.lc_hist.specs.JsonValues.{values_in, client_in, client_within, is_word, numbers_in, call_in, invoke_from, respond_from, event_from, event_in, has_replies}
-use Rattle.lc_hist.specs.WellFormed.{client_of, begins, IsInTurn}
-use Rattle.lc_hist.proofs.Turns.{AreBusy, is_in_turn, is_out_of_turn, eq_swapped, busy_next}
+use Rattle.lc_history.specs.WellFormed.{client_of, begins, IsInTurn}
+use Rattle.lc_history.proofs.Turns.{AreBusy, is_in_turn, is_out_of_turn, eq_swapped, busy_next}
 use Rattle.lc_hist.proofs.JsonLists.{both_parts}
 
 -- after these events each client is in a call of the operation in the table
@@ -64,10 +65,6 @@ take_whole (x ∷ xs) y = ap (λ zs. x ∷ zs) (take_whole xs y)
 
 pub take_all_one_more : {A : Type 0} (xs : List A) (y : A) → take (length xs + 1) (xs ++ y ∷ []) ≡ xs ++ y ∷ []
 take_all_one_more xs y = rw add-one (take_whole xs y)
-
-pub get_last : {A : Type 0} (xs : List A) (y : A) → slice_get (xs ++ y ∷ []) (length xs) ≡ Some y
-get_last [] y = refl
-get_last (x ∷ xs) y = get_last xs y
 
 some_case : (b : Bool) (p q : Option ℕ) → is_some (cond b p q) ≡ cond b (is_some p) (is_some q)
 some_case true p q = refl

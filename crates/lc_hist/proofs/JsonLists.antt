@@ -1,5 +1,5 @@
 -- What lists of values say, element by element.
-use Rattle.std.proofs.Common.{◌≡◌, ℕ, zero, suc, ◌≤◌, List, [], ◌∷◌, ◌++◌, Option, Some, None, option_map, option_and_then, map, take, slice_get, length, refl, ap, sym, subst, ◌∙◌, arith, ℤ}
+use Rattle.std.proofs.Common.{◌≡◌, ℕ, zero, suc, List, [], ◌∷◌, ◌++◌, Option, Some, None, option_map, option_and_then, map, take, slice_get, length, refl, ap, sym, subst, ◌∙◌, ℤ}
 use Rattle.std.proofs.lemmas.List.{map-append, append_assoc}
 use Rattle.serde_json.specs.Data.{Data, Items}
 use Rattle.serde_json.specs.Find.{as_array}
@@ -50,12 +50,6 @@ each-next P [] i x each at here j y found = absurd cc
 each-next P (z ∷ xs) zero x each at here j y found = let same : x ≡ z = cc in each_last P z (subst P same here) j y found
 each-next P (z ∷ xs) (suc i) x each at here zero y found = each zero y found
 each-next P (z ∷ xs) (suc i) x each at here (suc j) y found = each-next P xs i x (λ k w e. each (suc k) w e) at here j y found
-
-pub take_past : {A : Type 0} (xs : List A) (n : ℕ) → length xs ≤ n → take n xs ≡ xs
-take_past [] zero le = refl
-take_past [] (suc n) le = refl
-take_past (x ∷ xs) zero le = absurd (omega arith)
-take_past (x ∷ xs) (suc n) le = ap (λ ys. x ∷ ys) (take_past xs n (omega arith))
 
 -- parts that are there
 pub both_parts : {A B C : Type 0} (f : A → B → C) (a : Option A) (b : Option B) (x : C) → option_and_then (λ y. option_map (f y) b) a ≡ Some x

@@ -1,23 +1,21 @@
 -- A text says one history and one order, or has one first wrong item, and never both.
-use Rattle.std.proofs.Common.{◌≡◌, ℕ, zero, suc, ◌+◌, ◌<◌, List, [], ◌∷◌, ◌++◌, Option, Some, take, slice_get, length, ap, sym, subst, ◌∙◌, arith, ◌⊎◌, inl, inr, true}
+use Rattle.std.proofs.Common.{◌≡◌, ℕ, zero, suc, ◌+◌, ◌<◌, List, [], ◌∷◌, ◌++◌, Some, take, slice_get, length, ap, sym, subst, ◌∙◌, arith, ◌⊎◌, inl, inr, true}
 use Rattle.std.specs.Prelude.{is_some}
 use Rattle.std.proofs.lemmas.Bool.{cases_order}
 use Rattle.serde_json.specs.Data.{Data}
+use Rattle.lc_lemmas.proofs.Lists.{get_taken, take-take}
+use Rattle.lc_lemmas.proofs.Options.{same_option}
 use Rattle.lc_seq.specs.Specification.{Operation}
-use Rattle.lc_hist.specs.History.{Event, Entry}
+use Rattle.lc_history.specs.History.{Event, Entry}
 use Rattle.lc_hist.specs.JsonHistories.{Parts, HasParts, IsNext, AreNext, AreEvents, AreEntries, IsFirstWrongEvent, IsFirstWrongEntry, IsWrongInEvents, IsWrongInOrder, IsWrongItem, SaysHistory}
 use Rattle.lc_hist.specs.JsonRecorded.{HasRecorded, IsWrongRecordedItem, SaysRecorded}
 use Rattle.lc_hist.specs.JsonValues.{all_in, event_in, entry_in}
 use Rattle.lc_hist.proofs.JsonLists.{all_in-none}
-use Rattle.lc_hist.proofs.Turns.{slice_get-take, take-take}
-
-some_same : {A : Type 0} (o : Option A) (x y : A) → o ≡ Some x → o ≡ Some y → x ≡ y
-some_same o x y p q = let e : Some x ≡ Some y = sym p ∙ q in cc
 
 same_events : (operations : List Operation) (before : List Event) (ds : List Data) (all every : List Event) → AreNext operations before ds all → AreNext operations before ds every → all ≡ every
 same_events operations before [] all every h k = sym h ∙ k
 same_events operations before (d ∷ ds) all every h k =
-    let same = some_same (event_in operations d) k.0 h.0 k.1.form h.1.form in
+    let same = same_option (event_in operations d) k.0 h.0 k.1.form h.1.form in
     same_events operations (before ++ h.0 ∷ []) ds all every h.2 (subst (λ e. AreNext operations (before ++ e ∷ []) ds every) same k.2)
 
 -- if all values are right, so is each
@@ -28,7 +26,7 @@ right_there operations before (d ∷ ds) all front zero value h at k =
     let same : d ≡ value = cc in
     (h.0, subst (λ z. IsNext operations front z h.0) same (subst (λ z. IsNext operations z d h.0) k h.1))
 right_there operations before (d ∷ ds) all front (suc place) value h at k =
-    let same = some_same (event_in operations d) k.0 h.0 k.1.form h.1.form in
+    let same = same_option (event_in operations d) k.0 h.0 k.1.form h.1.form in
     right_there operations (before ++ h.0 ∷ []) ds all front place value h.2 at (subst (λ e. AreNext operations (before ++ e ∷ []) (take place ds) front) same k.2)
 
 no_wrong_event : (operations : List Operation) (ds : List Data) (events : List Event) (place : ℕ) → AreEvents operations ds events → IsFirstWrongEvent operations ds place → ⊥
@@ -45,7 +43,7 @@ no_wrong_entry operations ds place right wrong =
 event_at_front : (operations : List Operation) (ds : List Data) (p q : ℕ) → p < q → IsFirstWrongEvent operations ds p → IsFirstWrongEvent operations (take q ds) p
 event_at_front operations ds p q lt wrong = record {
   value = wrong.value;
-  stands = slice_get-take ds q p lt ∙ wrong.stands;
+  stands = get_taken ds q p lt ∙ wrong.stands;
   before = wrong.before;
   right = subst (λ es. AreEvents operations es wrong.before) (sym (take-take ds q p (omega arith))) wrong.right;
   wrong = wrong.wrong;
@@ -54,7 +52,7 @@ event_at_front operations ds p q lt wrong = record {
 entry_at_front : (operations : List Operation) (ds : List Data) (p q : ℕ) → p < q → IsFirstWrongEntry operations ds p → IsFirstWrongEntry operations (take q ds) p
 entry_at_front operations ds p q lt wrong = record {
   value = wrong.value;
-  stands = slice_get-take ds q p lt ∙ wrong.stands;
+  stands = get_taken ds q p lt ∙ wrong.stands;
   right = subst (λ es. is_some (all_in (entry_in operations) es) ≡ true) (sym (take-take ds q p (omega arith))) wrong.right;
   wrong = wrong.wrong;
 }
@@ -91,7 +89,7 @@ one_said : (Has : Parts → Type 0) → OneOf Has → (operations : List Operati
 one_said Has one operations events said order entries a b =
     let same = one b.0 a.0 b.1 a.1 in (
       same_events operations [] a.0.events events said a.2 (subst (λ p. AreEvents operations p.events said) same b.2),
-      some_same (all_in (entry_in operations) a.0.order) order entries a.3 (subst (λ p. AreEntries operations p.order entries) same b.3),
+      same_option (all_in (entry_in operations) a.0.order) order entries a.3 (subst (λ p. AreEntries operations p.order entries) same b.3),
     )
 
 said_not_wrong : (Has : Parts → Type 0) → OneOf Has → (operations : List Operation) (events : List Event) (order : List Entry) (item : ℕ) → SaysBy Has operations events order → IsWrongBy Has operations item → ⊥
@@ -120,7 +118,7 @@ one_wrong Has one operations a b (inr (p, text, h)) (inr (q, also, k)) =
 -- ---- a history with its order
 
 same_parts : (bytes : List ℕ) → OneOf (HasParts bytes)
-same_parts bytes p q a b = some_same _ p q a.reads b.reads
+same_parts bytes p q a b = same_option _ p q a.reads b.reads
 
 history_by : (operations : List Operation) (bytes : List ℕ) (events : List Event) (order : List Entry) → SaysHistory operations bytes events order → SaysBy (HasParts bytes) operations events order
 history_by operations bytes events order says = (says.parts, says.text, says.events, says.order)
@@ -139,7 +137,7 @@ one_item operations bytes a b = one_wrong (HasParts bytes) (same_parts bytes) op
 -- ---- a recorded history
 
 same_recorded : (bytes : List ℕ) → OneOf (HasRecorded bytes)
-same_recorded bytes p q a b = some_same _ p q a.reads b.reads
+same_recorded bytes p q a b = same_option _ p q a.reads b.reads
 
 recorded_by : (operations : List Operation) (bytes : List ℕ) (events : List Event) (order : List Entry) → SaysRecorded operations bytes events order → SaysBy (HasRecorded bytes) operations events order
 recorded_by operations bytes events order says = (says.parts, says.text, says.events, says.order)

@@ -7,7 +7,7 @@ use Rattle.serde_json.specs.Find.{as_str}
 use Rattle.serde_json.specs.View.{items_of}
 use Rattle.lc_seq.specs.Sequential.{Call, Choice, ByName}
 use Rattle.lc_seq.specs.Specification.{Operation}
-use Rattle.lc_hist.specs.History.{Event, Called, Replied}
+use Rattle.lc_history.specs.History.{Event, Called, Replied}
 use Rattle.lc_hist.specs.JsonTokens.{Begins, BeginAll, Says, SayCall, SayDeed, SayPick, said_alone}
 use Rattle.lc_hist.specs.JsonValues.{numbers_in, client_in, event_from, event_in, has_replies, has_choice, pick_in, done_from, entry_from, entry_in}
 use Rattle.lc_hist.proofs.JsonLists.{values_in-items_of}

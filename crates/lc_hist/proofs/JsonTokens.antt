@@ -4,7 +4,7 @@ use Rattle.std.proofs.lemmas.List.{append-nil, append_assoc}
 use Rattle.json.specs.Token.{Token}
 use Rattle.json.specs.Lex.{tokens}
 use Rattle.json.specs.Json as json
-use Rattle.json.specs.Json.{parse_map, after_end_array, read_key, items, members, value, if_last}
+use Rattle.json.specs.Json.{parse_map, after_end_array, items, value}
 use Rattle.json.proofs.Grammar.{value_is, value-begin_array, items_end, items_more, skip_value-shorter}
 use Rattle.serde_json.specs.Data.{Num, negative, Data, number, string, array, Items, no_items, item}
 use Rattle.serde_json.specs.Find.{as_i64, as_u64}

@@ -9,7 +9,7 @@ use Rattle.serde_json.specs.Data.{Data, array}
 use Rattle.serde_json.specs.Read.{of_json, read}
 use Rattle.serde_json.specs.View.{items_of}
 use Rattle.lc_seq.specs.Specification.{Operation}
-use Rattle.lc_hist.specs.History.{Event, Entry}
+use Rattle.lc_history.specs.History.{Event, Entry}
 use Rattle.std.specs.Prelude.{IsUtf8}
 use Rattle.lc_base.specs.Limits.{file_limit}
 use Rattle.lc_hist.specs.JsonHistories.{parts_in}

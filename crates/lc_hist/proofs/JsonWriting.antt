@@ -2,14 +2,14 @@
 use Rattle.std.proofs.Common.{◌≡◌, ℕ, suc, ◌≤◌, Bool, true, false, cond, ℤ, pos, negsuc, List, [], ◌∷◌, ◌++◌, Option, Some, None, option_map, option_and_then, map, slice_get, length, codes, refl, ap, sym, subst, ◌∙◌, arith, append_assoc, append-nil}
 use Rattle.std.specs.Prelude.{bytes_eq, nat_le, nat_lt}
 use Rattle.std.proofs.lemmas.Bool.{and_parts, eqb-true}
-use Rattle.lc_base.specs.Limits.{client_limit}
+use Rattle.lc_history.specs.Limits.{client_limit}
 use Rattle.serde_json.specs.Data.{Data, number, string, object, member, no_members, unsigned, depth, items_depth}
 use Rattle.serde_json.specs.Read.{read}
 use Rattle.serde_json.specs.View.{items_of}
 use Rattle.serde_json.specs.Written.{has_float, items_have_float, compact_text}
 use Rattle.lc_seq.specs.Sequential.{Call, Choice, InOrder, ByName, given_in}
 use Rattle.lc_seq.specs.Specification.{Operation, takes}
-use Rattle.lc_hist.specs.History.{Event, Called, Replied, Entry}
+use Rattle.lc_history.specs.History.{Event, Called, Replied, Entry}
 use Rattle.lc_hist.specs.JsonHistories.{parts_in, AreNext, AreEntries}
 use Rattle.lc_hist.specs.JsonKept.{AreKept, IsKeptEvent, IsKeptEntry, Each}
 use Rattle.lc_hist.specs.JsonValues.{all_in, numbers_in, client_in, place_of, number_within, operation_of, call_with, call_in, has_replies, has_choice, pick_in, entry_with, done_from, event_in, entry_in}

@@ -1,14 +1,3 @@
-mod Clients
-pub mod Places
-mod Picked
-mod Calls
-mod Order
-mod Checks
-mod Naming
-mod Preceded
-mod Replays
-pub mod Tables
-mod Turns
 mod JsonLexed
 mod JsonLists
 mod JsonRows
@@ -17,7 +6,6 @@ mod JsonWhole
 mod JsonEvents
 mod NamesApart
 mod JsonWriting
-mod JsonNames
 mod JsonFound
 mod JsonFits
 mod JsonMembers
@@ -26,5 +14,3 @@ mod JsonRead
 mod JsonAlways
 mod JsonAnswers
 pub mod JsonOnce
-pub mod OneJudgement
-mod Following

@@ -1,5 +1,5 @@
 -- What a JSON text says as a history and an order, and what is returned for one.
-use Rattle.std.specs.Prelude.{◌≡◌, ◌≤◌, ◌+◌, ◌==◌, ◌⊎◌, ℕ, true, List, [], ◌∷◌, ◌++◌, ℤ, Option, Some, None, IsSome, Result, Ok, Err, option_map, option_and_then, if◌then◌else◌, codes, length, map, take, slice_get, IsUtf8, Vec}
+use Rattle.std.specs.Prelude.{◌≡◌, ◌≤◌, ◌+◌, ◌==◌, ◌⊎◌, ℕ, true, List, [], ◌∷◌, ◌++◌, ℤ, Option, Some, None, IsSome, Result, Ok, Err, option_map, option_and_then, if◌then◌else◌, codes, length, take, slice_get, IsUtf8, Vec}
 use Rattle.std.specs.declared.alloc.Global.{Global}
 use Rattle.serde_json.specs.Data.{Data, Members}
 use Rattle.serde_json.specs.Events.{members_len}
@@ -11,16 +11,15 @@ use Rattle.lc_base.specs.declared.refusal.Refusal.TheVariants.{HistoryShape}
 use Rattle.lc_base.specs.Limits.{file_limit}
 use Rattle.lc_seq.specs.Sequential.{Call}
 use Rattle.lc_seq.specs.Specification.{Operation}
-use Rattle.lc_seq.specs.SpecView.{text_call_of, choice_of}
 use Rattle.lc_seq.specs.declared.choice.Pick.{Pick}
 use Rattle.lc_seq.specs.declared.text_call.TextCall.{TextCall}
-use Rattle.lc_hist.specs.History.{Event, Called, Replied, Entry, pending_of}
-use Rattle.lc_hist.specs.Histories.{events_in}
+use Rattle.lc_history.specs.History.{Event, Called, Replied, Entry, pending_of}
+use Rattle.lc_history.specs.Histories.{events_in}
 use Rattle.lc_hist.specs.JsonValues.{values_in, all_in, has_replies, event_in, entry_in}
-use Rattle.lc_hist.specs.View.{entry_of}
-use Rattle.lc_hist.specs.WellFormed.{IsInTurn}
-use Rattle.lc_hist.specs.declared.event.Done.{Done}
-use Rattle.lc_hist.specs.declared.history.History.{History}
+use Rattle.lc_history.specs.View.{entries_view}
+use Rattle.lc_history.specs.WellFormed.{IsInTurn}
+use Rattle.lc_history.specs.declared.event.Done.{Done}
+use Rattle.lc_history.specs.declared.history.History.{History}
 
 -- a return has as many numbers as the operation replies in whose call its client is
 abbrev pub IsCounted : List Operation → List Event → Event → Type 0
@@ -109,14 +108,6 @@ abbrev pub IsWrongItem : List Operation → List ℕ → ℕ → Type 0
 IsWrongItem operations bytes item =
     ((item ≡ 0) × ((parts : Parts) → HasParts bytes parts → ⊥))
     ⊎ ((parts : Parts) × HasParts bytes parts × (IsWrongInEvents operations parts item ⊎ IsWrongInOrder operations parts item))
-
--- an entry of a call of a specification
-abbrev pub entry_view : Done TextCall Pick (Vec ℤ Global) → Entry
-entry_view done = entry_of text_call_of choice_of (λ reply. reply.items) done
-
--- the entries of an order of calls of a specification
-abbrev pub entries_view : List (Done TextCall Pick (Vec ℤ Global)) → List Entry
-entries_view order = map entry_view order
 
 -- a refusal at an item about which this is known, or `OutOfMemory`
 abbrev pub IsRefusedAt : (ℕ → Type 0) → Fault → Type 0

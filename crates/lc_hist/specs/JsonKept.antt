@@ -1,7 +1,7 @@
 -- Numbers that are read back.
 use Rattle.std.specs.Prelude.{◌≡◌, ℕ, List, ℤ, Some, slice_get}
 use Rattle.lc_seq.specs.Sequential.{given_in}
-use Rattle.lc_hist.specs.History.{Event, Called, Replied, Entry}
+use Rattle.lc_history.specs.History.{Event, Called, Replied, Entry}
 use Rattle.lc_hist.specs.JsonValues.{numbers_in}
 use Rattle.lc_hist.specs.JsonWritten.{numbers_data}
 

@@ -10,11 +10,12 @@ use Rattle.lc_base.specs.Limits.{file_limit}
 use Rattle.lc_seq.specs.Specification.{Operation}
 use Rattle.lc_seq.specs.declared.choice.Pick.{Pick}
 use Rattle.lc_seq.specs.declared.text_call.TextCall.{TextCall}
-use Rattle.lc_hist.specs.History.{Event, Entry}
-use Rattle.lc_hist.specs.Histories.{events_in}
-use Rattle.lc_hist.specs.JsonHistories.{Parts, array_at, parts_of, AreEvents, AreEntries, IsWrongInEvents, IsWrongInOrder, IsRefusedAt, entries_view}
-use Rattle.lc_hist.specs.declared.event.Done.{Done}
-use Rattle.lc_hist.specs.declared.history.History.{History}
+use Rattle.lc_history.specs.History.{Event, Entry}
+use Rattle.lc_history.specs.Histories.{events_in}
+use Rattle.lc_hist.specs.JsonHistories.{Parts, array_at, parts_of, AreEvents, AreEntries, IsWrongInEvents, IsWrongInOrder, IsRefusedAt}
+use Rattle.lc_history.specs.View.{entries_view}
+use Rattle.lc_history.specs.declared.event.Done.{Done}
+use Rattle.lc_history.specs.declared.history.History.{History}
 
 -- an object of the arrays `events` and `order`, or of `events` alone: then the order has no entries
 abbrev pub recorded_of : Data → Members → Option Parts

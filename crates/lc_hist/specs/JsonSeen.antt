@@ -8,7 +8,7 @@ use Rattle.lc_base.specs.declared.ids.OpId.{OpId}
 use Rattle.lc_base.specs.Limits.{file_limit}
 use Rattle.lc_seq.specs.Specification.{Operation}
 use Rattle.lc_seq.specs.SpecView.{operations_of}
-use Rattle.lc_hist.specs.History.{Event, Called, Replied, Entry}
+use Rattle.lc_history.specs.History.{Event, Called, Replied, Entry}
 use Rattle.lc_hist.specs.JsonHistories.{Parts, parts_in, AreEvents, AreEntries, IsFirstWrongEvent, IsFirstWrongEntry, IsWrongInEvents, IsWrongInOrder, SaysHistory}
 use Rattle.lc_hist.specs.JsonRecorded.{recorded_in, SaysRecorded}
 use Rattle.lc_hist.specs.JsonValues.{has_replies}

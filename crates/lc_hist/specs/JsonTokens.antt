@@ -7,7 +7,7 @@ use Rattle.serde_json.specs.Read.{of_json, converted, read}
 use Rattle.serde_json.specs.View.{items_of}
 use Rattle.lc_seq.specs.Sequential.{Call, Choice}
 use Rattle.lc_seq.specs.Specification.{Operation}
-use Rattle.lc_hist.specs.History.{Event, Entry}
+use Rattle.lc_history.specs.History.{Event, Entry}
 use Rattle.lc_hist.specs.JsonHistories.{Parts, parts_in, AreEvents, AreEntries}
 use Rattle.lc_hist.specs.JsonRecorded.{recorded_in}
 use Rattle.lc_hist.specs.JsonValues.{client_in, call_in, event_from, pick_in}

@@ -3,10 +3,10 @@ use Rattle.std.specs.Prelude.{ℕ, suc, ◌==◌, Bool, false, List, [], ◌∷�
 use Rattle.serde_json.specs.Data.{Data, Items, no_items, item}
 use Rattle.serde_json.specs.Find.{as_number, as_i64, as_u64, as_array, as_str}
 use Rattle.std.specs.List.{list_any}
-use Rattle.lc_base.specs.Limits.{client_limit}
+use Rattle.lc_history.specs.Limits.{client_limit}
 use Rattle.lc_seq.specs.Sequential.{Call, Choice, InOrder, ByName}
 use Rattle.lc_seq.specs.Specification.{Operation, agree, takes}
-use Rattle.lc_hist.specs.History.{Event, Called, Replied, Entry}
+use Rattle.lc_history.specs.History.{Event, Called, Replied, Entry}
 
 -- the values of an array, in order
 abbrev pub values_in : Items → List Data

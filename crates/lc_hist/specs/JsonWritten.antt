@@ -6,7 +6,7 @@ use Rattle.serde_json.specs.View.{items_of}
 use Rattle.serde_json.specs.Written.{compact_text}
 use Rattle.lc_seq.specs.Sequential.{Choice, InOrder, ByName}
 use Rattle.lc_seq.specs.Specification.{Operation}
-use Rattle.lc_hist.specs.History.{Event, Called, Replied, Entry}
+use Rattle.lc_history.specs.History.{Event, Called, Replied, Entry}
 use Rattle.lc_hist.specs.JsonHistories.{SaysHistory}
 
 -- `[..]`

@@ -1,8 +1,3 @@
-pub mod Checked
-pub mod Faults
-pub mod Histories
-pub mod History
-pub mod InCall
 pub mod JsonCursor
 pub mod JsonHistories
 pub mod JsonItems
@@ -12,10 +7,3 @@ pub mod JsonSeen
 pub mod JsonTokens
 pub mod JsonValues
 pub mod JsonWritten
-pub mod Judged
-pub mod Reason
-pub mod Shadowed
-pub mod Spans
-pub mod Tests
-pub mod View
-pub mod WellFormed

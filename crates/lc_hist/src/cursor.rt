@@ -12,7 +12,7 @@ ghost use Rattle.lc_hist.specs.declared.cursor.Place.{Place};
 ghost use Rattle.lc_hist.specs.declared.cursor.Place.TheVariants.{AfterValue};
 
 use crate::tokens::are_same;
-use lc_base::CLIENT_LIMIT;
+use lc_history::CLIENT_LIMIT;
 use std::marker::Model;
 
 /// Where the next token is.

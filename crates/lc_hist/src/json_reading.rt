@@ -1,22 +1,21 @@
 //! How the text of a history and its order is read: its bytes, and its two lists.
 ghost use Rattle.std.specs.Prelude.{◌≡◌, ◌≤◌, ◌^◌, IfOk, IfSome, MatchResult};
 ghost use Rattle.lc_seq.specs.TextView.{specification_of};
-ghost use Rattle.lc_hist.specs.Histories.{events_in};
-ghost use Rattle.lc_hist.specs.JsonHistories.{Parts, IsRefusedAt, IsHistoryOf, AreEvents, AreEntries, entries_view};
+ghost use Rattle.lc_history.specs.Histories.{events_in};
+ghost use Rattle.lc_hist.specs.JsonHistories.{Parts, IsRefusedAt, IsHistoryOf, AreEvents, AreEntries};
 ghost use Rattle.lc_hist.specs.JsonItems.{values_at};
 ghost use Rattle.lc_hist.specs.JsonRecorded.{IsRecordedOf, order_view};
 ghost use Rattle.lc_hist.specs.JsonSeen.{all_of, order_values, may_follow, number_of, AreInText, AreInParts, IsWrongInParts, IsWrongEventItem, IsWrongEntryItem};
-ghost use Rattle.lc_hist.specs.View.{event_of};
+ghost use Rattle.lc_history.specs.View.{event_of, entries_view};
 
 use crate::document::{Items, root, tokens_of};
-use crate::event::{Done, Event};
-use crate::history::History;
 use crate::json_values::{read_entry, read_event};
 use crate::open_calls::{OpenCalls, opened};
 use crate::operations::Operations;
 use crate::token_rows::read_right;
 use json::Scratch;
 use lc_base::{FILE_LIMIT, Fault, OpId, OutOfMemory, Refusal};
+use lc_history::{Done, Event, History};
 use lc_seq::{Pick, TextCall, TextSpec};
 use std::alloc::Global;
 

@@ -3,14 +3,13 @@ ghost use Rattle.std.specs.Prelude.{◌≡◌, IfOk, option_map, option_and_then
 ghost use Rattle.lc_seq.specs.SpecView.{text_call_of, choice_of};
 ghost use Rattle.lc_hist.specs.JsonItems.{data_at, values_at};
 ghost use Rattle.lc_hist.specs.JsonSeen.{all_of, said_in};
-ghost use Rattle.lc_hist.specs.JsonHistories.{entry_view};
 ghost use Rattle.lc_hist.specs.JsonValues.{number_in, numbers_in, client_in, is_word, call_in, invoke_from, respond_from, event_from, event_in, pick_in, choice_from, choice_with, done_from, entry_from, entry_in};
-ghost use Rattle.lc_hist.specs.View.{event_of};
+ghost use Rattle.lc_history.specs.View.{event_of, entry_view};
 
 use crate::document::{Item, Items};
-use crate::event::{Done, Event};
 use crate::operations::Operations;
-use lc_base::{CLIENT_LIMIT, OpId, OutOfMemory};
+use lc_base::{OpId, OutOfMemory};
+use lc_history::{CLIENT_LIMIT, Done, Event};
 use lc_seq::{Pick, TextCall};
 use std::alloc::Global;
 

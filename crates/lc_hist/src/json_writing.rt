@@ -4,16 +4,14 @@ ghost use Rattle.serde_json.specs.Data.{number, unsigned, string, object, member
 ghost use Rattle.serde_json.specs.View.{view};
 ghost use Rattle.lc_seq.specs.SpecView.{operations_of};
 ghost use Rattle.lc_seq.specs.TextView.{specification_of};
-ghost use Rattle.lc_hist.specs.Histories.{events_in};
-ghost use Rattle.lc_hist.specs.JsonHistories.{entry_view, entries_view};
+ghost use Rattle.lc_history.specs.Histories.{events_in};
 ghost use Rattle.lc_hist.specs.JsonValues.{number_in};
 ghost use Rattle.lc_hist.specs.JsonKept.{AreKept, IsKeptEvent, IsKeptEntry, Each};
 ghost use Rattle.lc_hist.specs.JsonWritten.{list_data, number_data, numbers_data, name_data, event_data, entry_data, history_data, history_text, SaysOnly};
-ghost use Rattle.lc_hist.specs.View.{event_of, events_of};
+ghost use Rattle.lc_history.specs.View.{event_of, events_of, entry_view, entries_view};
 
-use crate::event::{Done, Event};
-use crate::history::History;
 use lc_base::{OpId, OutOfMemory};
+use lc_history::{Done, Event, History};
 use lc_seq::{Operation, Pick, TextCall, TextSpec};
 use serde_json::{Value, json};
 use std::alloc::{AllocError, Global};

@@ -1,10 +1,10 @@
 //! Which call each client is in after a beginning of a history.
 ghost use Rattle.std.specs.Prelude.{◌≡◌};
 ghost use Rattle.lc_hist.specs.JsonSeen.{number_of, opened};
-ghost use Rattle.lc_hist.specs.View.{event_of};
+ghost use Rattle.lc_history.specs.View.{event_of};
 
-use crate::event::Event;
 use lc_base::{OpId, OutOfMemory};
+use lc_history::Event;
 use std::alloc::Global;
 
 /// Which operation's call each client is in.

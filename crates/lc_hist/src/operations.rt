@@ -55,7 +55,7 @@ fn is_named(operation: &Operation, name: &[u8]) -> bool
 }
 
 /// The place at which a name occurs first, if it is one of the first few: there it is found sooner than in a table.
-#[tactic(auto, using(crate::proofs::JsonNames::counted_on))]
+#[tactic(auto, using(lc_lemmas::proofs::Options::counted_on))]
 fn early_place(all: &[Operation], name: &[u8]) -> Option<usize>
     ensures { IfSome result (λ place. place_of (operations_of all.now) name.now ≡ Some place) }
 {

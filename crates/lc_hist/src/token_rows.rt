@@ -1,22 +1,20 @@
 //! How a history that is right is read from the tokens of its text, a row at a time.
 ghost use Rattle.std.specs.Prelude.{◌≡◌, Some, IfOk, IfSome};
 ghost use Rattle.lc_seq.specs.SpecView.{choice_of};
-ghost use Rattle.lc_hist.specs.Histories.{events_in};
-ghost use Rattle.lc_hist.specs.JsonHistories.{entry_view, entries_view};
+ghost use Rattle.lc_history.specs.Histories.{events_in};
 ghost use Rattle.lc_hist.specs.JsonRecorded.{order_view};
 ghost use Rattle.lc_hist.specs.JsonSeen.{all_of};
 ghost use Rattle.lc_hist.specs.JsonTokens.{Says, SayDeed, SayPick, SayEvents, SayEntries, AreLast, AreMembers, AreSaid};
 ghost use Rattle.lc_hist.specs.JsonValues.{event_in, entry_in, pick_in};
-ghost use Rattle.lc_hist.specs.View.{event_of};
+ghost use Rattle.lc_history.specs.View.{event_of, entry_view, entries_view};
 
 use crate::cursor::Cursor;
-use crate::event::{Done, Event};
-use crate::history::History;
 use crate::json_reading::may_follow;
 use crate::open_calls::{OpenCalls, opened};
 use crate::operations::Operations;
 use crate::tokens::{are_same, next_call, next_numbers};
 use lc_base::{OpId, OutOfMemory};
+use lc_history::{Done, Event, History};
 use lc_seq::{Pick, TextCall};
 use std::alloc::Global;
 use std::str;

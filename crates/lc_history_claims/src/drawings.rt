@@ -1,23 +1,25 @@
 //! Drawings of histories.
 ghost use Rattle.std.specs.Prelude.{IfOk, string_bytes};
 ghost use Rattle.lc_draw.specs.Drawings.{IsDrawing};
-ghost use Rattle.lc_hist.specs.Histories.{events_in};
-ghost use Rattle.lc_hist.specs.JsonHistories.{entries_view};
+ghost use Rattle.lc_history.specs.Histories.{events_in};
+ghost use Rattle.lc_history.specs.View.{entries_view};
 
 use lc_base::OutOfMemory;
 use lc_draw::drawing;
-use lc_hist::{Done, History};
+use lc_history::{Done, History};
 use lc_seq::{Pick, TextCall, TextSpec};
 use std::alloc::Global;
 
-/// A drawing has a bar for each call of the history, and a mark for each entry of the order that has a call.
+/// A drawing has a bar for each call of the history, a mark for each entry of the order that has a call, and a line behind the event
+/// whose number is given.
 pub fn drawing_a_history(
     alloc: Global,
     spec: &TextSpec,
     history: &History,
     order: &[Done<TextCall, Pick, Vec<i64>>],
+    event: Option<usize>,
 ) -> Result<String, OutOfMemory>
-    ensures { IfOk result (λ text. IsDrawing (events_in history.now) (entries_view order.now) (string_bytes text)) }
+    ensures { IfOk result (λ text. IsDrawing (events_in history.now) (entries_view order.now) event (string_bytes text)) }
 {
-    drawing(alloc, spec, history, order)
+    drawing(alloc, spec, history, order, event)
 }

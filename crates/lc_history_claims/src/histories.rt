@@ -1,16 +1,15 @@
 //! Histories, the judge of orders, and their texts.
 ghost use Rattle.std.specs.Prelude.{◌≡◌, IfOk};
-ghost use Rattle.lc_hist.specs.Histories.{events_in, IsHistory};
-ghost use Rattle.lc_hist.specs.JsonHistories.{entries_view, IsHistoryOf};
+ghost use Rattle.lc_history.specs.Histories.{events_in, IsHistory};
+ghost use Rattle.lc_hist.specs.JsonHistories.{IsHistoryOf};
 ghost use Rattle.lc_hist.specs.JsonWritten.{history_text, SaysOnly};
-ghost use Rattle.lc_hist.specs.Judged.{IsJudged};
-ghost use Rattle.lc_hist.specs.View.{entries_in, events_of};
+ghost use Rattle.lc_history.specs.Judged.{IsJudged};
+ghost use Rattle.lc_history.specs.View.{entries_in, events_of, entries_view};
 ghost use Rattle.lc_seq.specs.TextView.{specification_of};
 
 use lc_base::{Fault, OutOfMemory};
-use lc_hist::{
-    Done, Event, History, HistoryFault, JudgeFault, history_from_json, history_to_json, judge,
-};
+use lc_hist::{history_from_json, history_to_json};
+use lc_history::{Done, Event, History, HistoryFault, JudgeFault, judge};
 use lc_seq::{Pick, SeqObject, TextCall, TextSpec};
 use std::alloc::Global;
 

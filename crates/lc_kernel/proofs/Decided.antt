@@ -6,6 +6,7 @@ use Rattle.std.specs.Ordering.{int_eq}
 use Rattle.std.proofs.lemmas.Bool.{false≢true}
 use Rattle.std.proofs.lemmas.Bool.Decides.{Decides-int_eq}
 use Rattle.std.proofs.lemmas.Int.{ints}
+use Rattle.lc_lemmas.proofs.Numbers.{zero_fits, zero_scaled}
 use Rattle.lc_term.specs.Equal.{term_eq}
 use Rattle.lc_term.specs.EqualLaws.{Decides-term_eq}
 use Rattle.lc_term.specs.Syntax.{Term, Number, Variable, Bound, Add, Subtract, Multiply, Read}
@@ -123,9 +124,6 @@ module _ (P : Term → Type 0) (decision : (a : Term) → Decision (P a)) where
 
 -- ---- forms
 
-zero_fits : FitsSigned w128 (pos 0)
-zero_fits = omega (arith, ints)
-
 fits : (n : ℤ) → Decision (FitsSigned w128 n)
 fits n = decided_as (λ h. let low = h.0 in let high = h.1 in omega (arith, ints)) (λ h. (omega (arith, ints), omega (arith, ints)))
     (decision_of_both (at_most (pos 0 -ℤ pos (2 ^ 127)) n) (less n (pos (2 ^ 127))))
@@ -165,13 +163,10 @@ multiple : (k : ℤ) → pos 1 ≤ℤ k → (a : ℤ) → Decision ((c : ℤ) ×
 multiple k positive a =
     decided_as (λ none. (int_div a k, exact a k positive none)) (λ h. no_remainder a k positive h.0 h.1) (equal (int_rem a k) (pos 0))
 
-no_times : (k : ℤ) → pos 0 ≡ k *ℤ pos 0
-no_times k = omega (arith, ints)
-
 divides_by : (k : ℤ) (t : Term) → Decision (pos 1 ≤ℤ k) → Decision (Divides k (form_of t))
 divides_by k t (inl positive) =
     decided_as (λ h. record { positive = positive; multiples = h }) (λ d. d.multiples)
-    (of_all (λ a. (c : ℤ) × (form_of t (Some a) ≡ k *ℤ c)) (λ a. multiple k positive (form_of t (Some a))) (atoms t) (λ a h. (pos 0, absent t a h ∙ no_times k)))
+    (of_all (λ a. (c : ℤ) × (form_of t (Some a) ≡ k *ℤ c)) (λ a. multiple k positive (form_of t (Some a))) (atoms t) (λ a h. (pos 0, absent t a h ∙ zero_scaled k)))
 divides_by k t (inr no') = inr (λ d. no' d.positive)
 
 pub decision_divides : (k : ℤ) (t : Term) → Decision (Divides k (form_of t))
@@ -185,5 +180,5 @@ is_divided t k q =
     decided_as (λ h. record { coefficients = h.0; constant = h.1 }) (λ d. (d.coefficients, d.constant))
     (decision_of_both
     (of_all (λ a. form_of t (Some a) ≡ k *ℤ form_of q (Some a)) (λ a. equal (form_of t (Some a)) (k *ℤ form_of q (Some a))) (atoms t ++ atoms q)
-    (λ a h. let n = among-append a (atoms t) (atoms q) h in absent t a n.0 ∙ no_times k ∙ ap (λ c. k *ℤ c) (sym (absent q a n.1))))
+    (λ a h. let n = among-append a (atoms t) (atoms q) h in absent t a n.0 ∙ zero_scaled k ∙ ap (λ c. k *ℤ c) (sym (absent q a n.1))))
     (rounded_up (form_of t None) k (form_of q None)))

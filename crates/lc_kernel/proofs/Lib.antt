@@ -3,7 +3,7 @@ mod Numbered
 mod Entries
 mod Quotients
 pub mod InUse
-mod Found
+pub mod Found
 mod Holding
 mod Kept
 pub mod Sound
@@ -11,6 +11,6 @@ mod Decided
 mod Once
 mod Grows
 pub mod First
-mod Branches
+pub mod Branches
 pub mod Checked
 mod Stores

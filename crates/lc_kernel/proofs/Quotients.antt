@@ -1,7 +1,7 @@
 -- Quotients of comparisons, by the forms that are kept.
 use Rattle.std.specs.Prelude.{◌≡◌, ℤ, pos, ◌*ℤ◌, Option, Some, None, Ok, Err}
-use Rattle.std.proofs.Common.{refl, sym, subst, arith}
-use Rattle.std.proofs.lemmas.Int.{ints}
+use Rattle.std.proofs.Common.{refl, sym, subst}
+use Rattle.lc_lemmas.proofs.Numbers.{zero_scaled}
 use Rattle.lc_table.specs.NodeTables.{Table}
 use Rattle.lc_term.specs.Syntax.{Term, Formula}
 use Rattle.lc_linear.specs.Divided.{IsRoundedUp, Divides, IsDivided}
@@ -18,26 +18,23 @@ use Rattle.lc_kernel.specs.declared.fault.StepFault.TheVariants.{Flawed}
 use Rattle.lc_kernel.specs.declared.reason.Flaw.TheVariants.{Bad}
 use Rattle.lc_kernel.specs.declared.reason.Reason.TheVariants.{NotDivisible, WrongQuotient}
 
-scaled_zero : (k : ℤ) → pos 0 ≡ k *ℤ pos 0
-scaled_zero k = omega (arith, ints)
-
 -- what divides the form that is kept divides that of trees, and the other way round
 module _ (ts : Table) (n m : Form) (f g : T.Form) (k : ℤ) (first : Reads ts n f) (second : Reads ts m g) where
   pub divides_kept : Divides k f → Divides k n
-  divides_kept h = record { positive = h.positive; multiples = each_atom_kept ts n n f f first first (λ a b. (c : ℤ) × (a ≡ k *ℤ c)) (pos 0, scaled_zero k) h.multiples }
+  divides_kept h = record { positive = h.positive; multiples = each_atom_kept ts n n f f first first (λ a b. (c : ℤ) × (a ≡ k *ℤ c)) (pos 0, zero_scaled k) h.multiples }
 
   pub divides_of_trees : Divides k n → Divides k f
-  divides_of_trees h = record { positive = h.positive; multiples = each_atom_of_trees ts n n f f first first (λ a b. (c : ℤ) × (a ≡ k *ℤ c)) (pos 0, scaled_zero k) h.multiples }
+  divides_of_trees h = record { positive = h.positive; multiples = each_atom_of_trees ts n n f f first first (λ a b. (c : ℤ) × (a ≡ k *ℤ c)) (pos 0, zero_scaled k) h.multiples }
 
   pub divided_of_trees : IsDivided n k m → IsDivided f k g
   divided_of_trees h = record {
-    coefficients = each_atom_of_trees ts n m f g first second (λ a b. a ≡ k *ℤ b) (scaled_zero k) h.coefficients;
+    coefficients = each_atom_of_trees ts n m f g first second (λ a b. a ≡ k *ℤ b) (zero_scaled k) h.coefficients;
     constant = subst (λ c. IsRoundedUp c k (g None)) first.constant (subst (λ c. IsRoundedUp (n None) k c) second.constant h.constant);
   }
 
   pub divided_kept : IsDivided f k g → IsDivided n k m
   divided_kept h = record {
-    coefficients = each_atom_kept ts n m f g first second (λ a b. a ≡ k *ℤ b) (scaled_zero k) h.coefficients;
+    coefficients = each_atom_kept ts n m f g first second (λ a b. a ≡ k *ℤ b) (zero_scaled k) h.coefficients;
     constant = subst (λ c. IsRoundedUp c k (m None)) (sym first.constant) (subst (λ c. IsRoundedUp (f None) k c) (sym second.constant) h.constant);
   }
 

@@ -4,6 +4,7 @@ use Rattle.std.specs.Prelude.{ℤ, ◌==◌, nat_lt, if◌then◌else◌, length
 use Rattle.std.specs.List.{AllByRecursion}
 use Rattle.std.proofs.lemmas.Bool.{and_parts, and_from}
 use Rattle.std.proofs.lemmas.Bool.Decides.{nat_tests}
+use Rattle.lc_lemmas.proofs.Numbers.{equal_to_itself}
 use Rattle.lc_array.proofs.Truths.{written_is_true, same_index_is_true, affine_cell_is_true}
 use Rattle.lc_array.specs.Axioms.{written, same_index, affine_cell}
 use Rattle.lc_term.proofs.Agree.{Holds-agree}
@@ -41,11 +42,8 @@ with_value-other v k x e h = ap (λ b. if b then x else e k) (sym h)
 with_value-agrees : (v : ℕ) (x : ℤ) (e : Env) → AgreeBelow v e (with_value v x e)
 with_value-agrees v x e k h = with_value-other v k x e (not_in_use v k h)
 
-itself : (v : ℕ) → (v == v) ≡ true
-itself v = grind (arith, nat_tests)
-
 with_value-there : (v : ℕ) (x : ℤ) (e : Env) → x ≡ with_value v x e v
-with_value-there v x e = ap (λ b. if b then x else e v) (sym (itself v))
+with_value-there v x e = ap (λ b. if b then x else e v) (sym (equal_to_itself v))
 
 module _ (s : State) (v : ℕ) (e e' : Env) (same : AgreeBelow v e e') where
   still_holds : (b : Env) (n : ℕ) (f : Formula) → IsTrue (inner_below v n f) → Holds s e b f → Holds s e' b f

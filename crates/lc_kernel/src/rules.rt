@@ -22,6 +22,7 @@ use crate::reason::{Flaw, Reason};
 use crate::setting::Setting;
 use lc_array::{affine_axiom, same_index_axiom, written_axiom};
 use lc_base::OutOfMemory;
+use lc_put::instantiate;
 use lc_table::{ColExprId, FormulaId, FormulaNode, TermId, Terms};
 use lc_term::{ColExpr, Formula, Term, is_closed};
 use std::alloc::Global;
@@ -99,7 +100,7 @@ fn with_term(
     ensures kept { Keeps terms.old terms.new }
 {
     let put = terms.enter_term(term)?;
-    terms.instantiate(alloc, body, put)
+    instantiate(terms, alloc, body, put)
 }
 
 /// `(inst h T P)`: of `(forall x F)` one branch, with F where x is T. No quantifier is around T, so a bound

@@ -9,7 +9,9 @@ use Rattle.lc_layout.specs.declared.stage.Stage.TheVariants.{Lead, Flat, Fresh, 
 use Rattle.lc_layout.specs.declared.stage.Gap.{Gap}
 use Rattle.lc_layout.specs.declared.stage.Gap.TheVariants.{Nothing, Space, Line}
 use Rattle.lc_layout.specs.declared.stage.Spot.{Spot}
-use Rattle.lc_layout.proofs.Words.{lexed_open, lexed_close, lexed_space, lexed_feed, no_word, lexed_spaces, lexed_word, IsPlain, IsPlain-append, letters_plain, spaces_plain}
+use Rattle.lc_layout.proofs.Words.{lexed_spaces, IsPlain, IsPlain-append, letters_plain, spaces_plain}
+use Rattle.lc_sexp.proofs.PrintedLemmas.{lexed_open, lexed_close, lexed_space, lexed_feed, no_word}
+use Rattle.lc_sexp.proofs.Tokens.{lexed_word}
 
 -- an item of a list at this stage is not the first
 abbrev pub is_later : Stage → Bool

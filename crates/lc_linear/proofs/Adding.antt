@@ -1,8 +1,9 @@
 -- A multiple of a form added entry by entry, and a form subtracted entry by entry.
-use Rattle.std.proofs.Common.{◌≡◌, List, [], ◌∷◌, ◌++◌, Bool, true, false, Some, None, refl, sym, ap, subst, ◌∙◌, arith, rules}
+use Rattle.std.proofs.Common.{◌≡◌, List, [], ◌∷◌, ◌++◌, Bool, true, false, Some, None, refl, sym, ap, subst, ◌∙◌, arith}
 use Rattle.std.specs.Prelude.{ℤ, pos, negsuc, ◌+ℤ◌, ◌-ℤ◌, ◌*ℤ◌, FitsSigned, if◌then◌else◌}
 use Rattle.std.specs.Int.{w128}
 use Rattle.std.proofs.lemmas.Int.{ints}
+use Rattle.lc_lemmas.proofs.Numbers.{scaled_zero, scaled_zero_fits}
 use Rattle.lc_table.specs.declared.node.TermId.{TermId}
 use Rattle.lc_linear.proofs.Ids.{Decides-is_same}
 use Rattle.lc_linear.proofs.Products.{mul-add, mul-neg, mul_assoc, mul-one}
@@ -18,12 +19,6 @@ pub record Summed (start now : Form) (k : ℤ) (es : List (TermId × ℤ)) : Typ
 pub record ProductsFit (k : ℤ) (es : List (TermId × ℤ)) : Type 0 where
   pub products : (p : Place) → FitsSigned w128 (k *ℤ listed (pos 0) es p)
 
-mul-zero : (k : ℤ) → k *ℤ pos 0 ≡ pos 0
-mul-zero k = omega (arith, ints)
-
-zero_fits : (k : ℤ) → FitsSigned w128 (k *ℤ pos 0)
-zero_fits k = let zero_is : FitsSigned w128 (pos 0) = search rules in subst (FitsSigned w128) (sym (mul-zero k)) zero_is
-
 listed-none : (p : Place) → listed (pos 0) [] p ≡ pos 0
 listed-none None = refl
 listed-none (Some a) = refl
@@ -32,7 +27,7 @@ pub nothing_summed : (start : Form) (k : ℤ) → Summed start start k []
 nothing_summed start k = record { sums = λ p. rw (listed-none p) (omega (arith, ints)) }
 
 pub no_products : (k : ℤ) → ProductsFit k []
-no_products k = record { products = λ p. rw (listed-none p) (zero_fits k) }
+no_products k = record { products = λ p. rw (listed-none p) (scaled_zero_fits k) }
 
 module _ (k m : ℤ) (es : List (TermId × ℤ)) (x : TermId) (n : ℤ) (fresh : Absent x es) (is_m : m ≡ k *ℤ n) where
   product_here : ProductsFit k es → FitsSigned w128 m → (a : TermId) (here : Bool) → is_same a x ≡ here → FitsSigned w128 (k *ℤ (coefficient_in es a +ℤ n *ℤ (if here then pos 1 else pos 0)))
@@ -48,7 +43,7 @@ module _ (k m : ℤ) (es : List (TermId × ℤ)) (x : TermId) (n : ℤ) (fresh :
   pub one_more_product : ProductsFit k es → FitsSigned w128 m → ProductsFit k (es ++ (x, n) ∷ [])
   one_more_product so_far fits = record {
     products = elim [
-      | None ↦ zero_fits k
+      | None ↦ scaled_zero_fits k
       | Some a ↦ rw (listed-snoc es x n fresh (Some a)) (product_here so_far fits a (is_same a x) refl)
     ];
   }
@@ -57,7 +52,7 @@ module _ (k m : ℤ) (es : List (TermId × ℤ)) (x : TermId) (n : ℤ) (fresh :
     -- at the next atom nothing was added yet
     pub next_sum : now (Some x) ≡ start (Some x)
     next_sum =
-        let none : k *ℤ coefficient_in es x ≡ pos 0 = rw (coefficient_in-absent x es fresh) (mul-zero k) in
+        let none : k *ℤ coefficient_in es x ≡ pos 0 = rw (coefficient_in-absent x es fresh) (scaled_zero k) in
         let sum = so_far.sums (Some x) in
         omega (arith, ints)
 
@@ -86,7 +81,7 @@ module _ (f start now : Form) (k m c : ℤ) (all : List (TermId × ℤ)) (is_m :
   all_added None =
       let a = added.sums None in
       let b = first None in
-      let z = mul-zero k in
+      let z = scaled_zero k in
       rw (← is_m) (omega (arith, ints))
   all_added (Some a) =
       let s = added.sums (Some a) in

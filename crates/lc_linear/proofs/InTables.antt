@@ -2,6 +2,7 @@
 use Rattle.std.proofs.Common.{◌≡◌, ◌⊎◌, inl, inr, ◌↔◌, ℕ, zero, suc, Bool, true, false, List, [], ◌∷◌, Some, None, slice_get, refl, sym, ap, ap₂, subst, ◌∙◌}
 use Rattle.std.specs.Prelude.{ℤ, pos, if◌then◌else◌, Result, Ok, Err}
 use Rattle.std.proofs.lemmas.Bool.{false≢true}
+use Rattle.lc_lemmas.proofs.Booleans.{same_tests}
 use Rattle.lc_term.specs.Syntax as S
 use Rattle.lc_term.specs.Equal.{term_eq}
 use Rattle.lc_term.specs.EqualLaws.{Decides-term_eq}
@@ -10,7 +11,7 @@ use Rattle.lc_table.specs.Nodes.{Part, term, column, as_term, is_term}
 use Rattle.lc_table.specs.Tables.{parts, term_in, IsTerm}
 use Rattle.lc_table.specs.declared.node.TermId.{TermId}
 use Rattle.lc_table.proofs.TermNodes.{term-there}
-use Rattle.lc_linear.proofs.Ids.{Decides-is_same, same_test}
+use Rattle.lc_linear.proofs.Ids.{Decides-is_same}
 use Rattle.lc_linear.specs.Form as T
 use Rattle.lc_linear.specs.LinForm.{IsNowhere, Reads, Gives}
 use Rattle.lc_linear.specs.Numbered as N
@@ -124,11 +125,11 @@ IsExact ts = (a b : TermId) → IsTerm ts a → IsTerm ts b → (a ≡ b) ↔ (t
 pub atom_read : (ts : Table) → IsExact ts → (x : TermId) → IsTerm ts x → Reads ts (N.atom_form x) (T.atom_form (term_in ts x))
 atom_read ts exact x is_x = record {
   constant = refl;
-  terms = λ k is. ap (λ b. if b then pos 1 else pos 0) (same_test (is_same k x) (term_eq (term_in ts k) (term_in ts x))
+  terms = λ k is. ap (λ b. if b then pos 1 else pos 0) (same_tests (is_same k x) (term_eq (term_in ts k) (term_in ts x))
       (λ h. (Decides-term_eq (term_in ts k) (term_in ts x)).1 ((exact k x is is_x).0 ((Decides-is_same k x).0 h)))
       (λ h. (Decides-is_same k x).1 ((exact k x is is_x).1 ((Decides-term_eq (term_in ts k) (term_in ts x)).0 h))));
-  others = λ k not. ap (λ b. if b then pos 1 else pos 0) (same_test (is_same k x) false (λ h. absurd (not (subst (IsTerm ts) (sym ((Decides-is_same k x).0 h)) is_x))) (λ h. absurd (false≢true h)));
-  nowhere = λ a not. ap (λ b. if b then pos 1 else pos 0) (same_test (term_eq a (term_in ts x)) false
+  others = λ k not. ap (λ b. if b then pos 1 else pos 0) (same_tests (is_same k x) false (λ h. absurd (not (subst (IsTerm ts) (sym ((Decides-is_same k x).0 h)) is_x))) (λ h. absurd (false≢true h)));
+  nowhere = λ a not. ap (λ b. if b then pos 1 else pos 0) (same_tests (term_eq a (term_in ts x)) false
       (λ h. absurd (not x is_x (sym ((Decides-term_eq a (term_in ts x)).0 h)))) (λ h. absurd (false≢true h)));
 }
 

@@ -1,8 +1,9 @@
 -- Forms of trees that are made of those of their parts, as the code makes them over a table.
-use Rattle.std.proofs.Common.{◌≡◌, Some, None, refl, sym, ap, subst, ◌∙◌, rules, arith}
+use Rattle.std.proofs.Common.{◌≡◌, Some, None, refl, sym, ap, subst, ◌∙◌, arith}
 use Rattle.std.specs.Prelude.{ℤ, pos, ◌+ℤ◌, ◌-ℤ◌, ◌*ℤ◌, FitsSigned, Result}
 use Rattle.std.specs.Int.{w128}
 use Rattle.std.proofs.lemmas.Int.{ints}
+use Rattle.lc_lemmas.proofs.Numbers.{zero_fits, scaled_zero, scaled_zero_fits}
 use Rattle.lc_table.specs.NodeTables.{Table}
 use Rattle.lc_term.specs.Syntax.{Term, Number, Add, Subtract, Multiply}
 use Rattle.lc_table.specs.Tables.{term_in, IsTerm}
@@ -18,15 +19,6 @@ use Rattle.lc_linear.specs.LinForm.{numbers, HasNumbers, Reads, IsFormIn, AddsIn
 use Rattle.lc_linear.specs.Numbered as N
 use Rattle.lc_linear.specs.declared.fault.LinFault.{LinFault}
 use Rattle.lc_linear.specs.declared.form.LinForm.{LinForm}
-
-zero_fits : FitsSigned w128 (pos 0)
-zero_fits = search rules
-
-scaled_zero : (k : ℤ) → k *ℤ pos 0 ≡ pos 0
-scaled_zero k = omega (arith, ints)
-
-scaled_zero_fits : (k : ℤ) → FitsSigned w128 (k *ℤ pos 0)
-scaled_zero_fits k = subst (FitsSigned w128) (sym (scaled_zero k)) zero_fits
 
 added_zero : (k : ℤ) → pos 0 +ℤ k *ℤ pos 0 ≡ pos 0
 added_zero k = omega (arith, ints)

@@ -28,7 +28,3 @@ pub listed-same : (n m : ℤ) (es ds : List (TermId × ℤ)) → n ≡ m → All
 listed-same n m es ds constant first second None = constant
 listed-same n m es ds constant first second (Some a) =
     both (coefficient_in es a) (coefficient_in ds a) (had (listed n es) ds second a) (had (listed m ds) es first a)
-
-pub not_false : (b : Bool) → (b ≡ false → ⊥) → b ≡ true
-not_false true h = refl
-not_false false h = absurd (h refl)

@@ -7,12 +7,12 @@ use Rattle.std.proofs.lemmas.Int.{ints}
 use lib.Signed.{lt_z}
 use Rattle.std.proofs.lemmas.List.{map_more, map-append, take-append-drop}
 use Rattle.lc_term.specs.Syntax as S
-use Rattle.lc_term.specs.Syntax.{Add, Subtract, Multiply}
+use Rattle.lc_term.specs.Syntax.{Add, Multiply}
 use Rattle.lc_table.specs.NodeTables.{Table}
-use Rattle.lc_table.specs.Tables.{formula_in, IsFormula}
+use Rattle.lc_table.specs.Tables.{formula_in}
 use Rattle.lc_table.specs.declared.node.FormulaId.{FormulaId}
 use Rattle.lc_linear.specs.Arithmetic.{CanAddScaled, added_scaled}
-use Rattle.lc_linear.specs.Closing.{Entry, gap, combined_from, combined, entries_in, AreEntries, are_allowed, Closes}
+use Rattle.lc_linear.specs.Closing.{Entry, gap, combined_from, combined, entries_in, are_allowed, Closes}
 use Rattle.lc_linear.specs.Form.{Place, Form, form_of, HasForm}
 
 combined_from-append : (t : S.Term) (xs ys : List Entry) → combined_from t (xs ++ ys) ≡ combined_from (combined_from t xs) ys
@@ -75,12 +75,6 @@ module _ (es : List Entry) (sum : Form) (is : (p : Place) → sum p ≡ form_of 
 
   pub open_answer : closed ≡ false → (((a : S.Term) → sum (Some a) ≡ pos 0) → ⊥) → IsTrue closed ↔ Closes es
   open_answer shut some = (λ h. absurd (false≢true (sym shut ∙ h)), λ h. absurd (some (λ a. is (Some a) ∙ h.vanishes a)))
-
--- each entry is one of a formula
-pub entry_there : (ts : Table) (es : List (FormulaId × ℤ)) (i : ℕ) (e : FormulaId × ℤ) → AreEntries ts es → i < length es → e ≡ get_or es i e → IsFormula ts e.0
-entry_there ts [] i e are h is = absurd (omega arith)
-entry_there ts (x ∷ es) zero e are h is = subst (λ y. IsFormula ts y.0) (sym is) are.0
-entry_there ts (x ∷ es) (suc i) e are h is = entry_there ts es i e are.1 (omega arith) is
 
 -- an item that is there, whatever else would be answered
 pub get_or-any : {T : Type 0} (es : List T) (i : ℕ) (d e : T) → i < length es → get_or es i d ≡ get_or es i e

@@ -1,11 +1,11 @@
 //! States in which a goal fails.
 ghost use Rattle.std.specs.Prelude.{◌≡◌, ◌↔◌, IfOk};
-ghost use Rattle.lc_failing.specs.Told.{IsTold};
-ghost use Rattle.lc_failing.specs.declared.failing.Failing.TheVariants.{Fails};
+ghost use Rattle.lc_proof_state.specs.Told.{IsTold};
+ghost use Rattle.lc_proof_state.specs.declared.failing.Failing.TheVariants.{Fails};
 ghost use Rattle.lc_term.specs.View.{formula_of, formulas_of};
 
 use lc_base::OutOfMemory;
-use lc_failing::{FAILS, Failing, Numbered, Told, tell, words_of};
+use lc_proof_state::{FAILS, Failing, Numbered, Told, tell, words_of};
 use lc_term::Formula;
 use std::alloc::Global;
 

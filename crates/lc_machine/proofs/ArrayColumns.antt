@@ -1,18 +1,17 @@
 -- The columns of an object's arrays.
-use Rattle.std.proofs.Common.{◌≡◌, ℕ, ◌<◌, ◌≤◌, ◌+◌, ◌-◌, ◌&&◌, true, List, [], ◌∷◌, length, map, refl, ap, ap₂, ◌∙◌, arith, Some, get_or, replicate}
-use Rattle.std.specs.Prelude.{pos, option_map, nat_lt, nat_le, slice_get}
+use Rattle.std.proofs.Common.{◌≡◌, ℕ, ◌≤◌, ◌+◌, ◌-◌, ◌&&◌, true, List, [], ◌∷◌, length, map, ap₂, ◌∙◌, arith, Some, replicate}
+use Rattle.std.specs.Prelude.{pos, nat_lt, nat_le, slice_get}
 use Rattle.std.specs.List.{list_all}
 use Rattle.std.proofs.lemmas.Bool.Decides.{nat_tests}
 use Rattle.std.proofs.lemmas.List.{length-append, length-map, length-replicate}
-use Rattle.std.proofs.lemmas.Option.{slice_get-map, slice_get_read}
+use Rattle.lc_lemmas.proofs.Lists.{at_all}
+use Rattle.lc_lemmas.proofs.Booleans.{left_true, right_true}
 use Rattle.lc_base.specs.Limits.{width_limit}
 use Rattle.lc_object.specs.Syntax.{Array, Object}
 pub use Rattle.lc_object.proofs.ObjectParts.{operations_pass}
 use Rattle.lc_object.specs.WellFormed.{is_object, is_array, is_point}
 use Rattle.lc_machine.specs.World.{initial_numbers}
 use Rattle.lc_machine.specs.Below.{AreBelow}
-pub use Rattle.lc_term.proofs.Tests.{at_all}
-use Rattle.lc_machine.proofs.Known.{left_true, right_true}
 
 pub initial_count : (object : Object) → length (initial_numbers object) ≡ length object.abstracts + length object.concretes
 initial_count object =
@@ -45,7 +44,3 @@ pub concrete_columns : (object : Object) (k : ℕ) (a : Array) → is_object obj
 concrete_columns object k a e f =
     let array = at_all (is_array object) object.arrays k a (arrays_pass object e) f in
     rw (initial_count object) (concrete_below (length object.abstracts) (length object.concretes) a.columns (right_true _ _ array))
-
--- the view of the element at a place
-pub viewed_at : {A B : Type 0} (f : A → B) (xs : List A) (i : ℕ) (x : A) → i < length (map f xs) → x ≡ get_or xs i x → slice_get (map f xs) i ≡ Some (f x)
-viewed_at f xs i x h e = slice_get-map f xs i ∙ ap (option_map f) (slice_get_read xs (length xs) i x refl (rw (← length-map xs f) h) e)

@@ -6,6 +6,8 @@ use Rattle.std.proofs.lemmas.Bool.{eqb-true}
 use Rattle.std.proofs.lemmas.Bool.Decides.{nat_tests}
 use Rattle.std.proofs.lemmas.List.{length-map}
 use Rattle.std.proofs.lemmas.Option.{same_Some}
+use Rattle.lc_lemmas.proofs.Booleans.{left_true, right_true}
+use Rattle.lc_lemmas.proofs.Lists.{at_all}
 use Rattle.lc_term.specs.Meaning.{State}
 use Rattle.lc_term.specs.State.{with_cell}
 use Rattle.lc_object.specs.Syntax.{Instr, Load, Store, Cas, Set, Faa, If, Return, Array, Operation, Point, Object}
@@ -16,7 +18,6 @@ use Rattle.lc_object.specs.declared.instr.EdgeKind.TheVariants.{Next}
 use Rattle.lc_machine.specs.Step.{with_row, number, numbers, Does, Goes, Answers, row, sums}
 use Rattle.lc_machine.proofs.ArrayColumns.{arrays_pass, points_pass}
 use Rattle.lc_term.specs.Lists.{Every}
-use Rattle.lc_term.proofs.Tests.{left_true, right_true, at_all}
 use Rattle.lc_object.proofs.ObjectParts.{operations_pass, first_stands}
 use Rattle.lc_object.specs.Places.{operation_in, operation_at}
 use Rattle.lc_term.proofs.Stores.{cell_other}

@@ -140,7 +140,7 @@ in_front x [] ys h = absurd h
 in_front x (z ∷ zs) ys (inl e) = inl e
 in_front x (z ∷ zs) ys (inr h) = inr (in_front x zs ys h)
 
-in_back : {A : Type 0} (x : A) (xs ys : List A) → IsIn x ys → IsIn x (xs ++ ys)
+pub in_back : {A : Type 0} (x : A) (xs ys : List A) → IsIn x ys → IsIn x (xs ++ ys)
 in_back x [] ys h = h
 in_back x (z ∷ zs) ys h = inr (in_back x zs ys h)
 

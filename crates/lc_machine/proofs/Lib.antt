@@ -1,12 +1,12 @@
 pub mod Known
 mod RowWrites
 pub mod Lengths
-mod ArrayColumns
+pub mod ArrayColumns
 mod Going
 mod Instructions
 pub mod Promised
-mod Stepping
-mod Worlds
+pub mod Stepping
+pub mod Worlds
 pub mod EdgeLaw
 pub mod Bodies
 pub mod Over

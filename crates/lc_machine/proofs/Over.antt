@@ -3,13 +3,15 @@ use Rattle.std.proofs.Common.{◌≡◌, ℕ, ◌+◌, ◌-◌, ◌<◌, ◌≤�
 use Rattle.std.specs.Prelude.{slice_get, slice_set, nat_le, IsTrue}
 use Rattle.std.specs.List.{list_all}
 use Rattle.std.proofs.lemmas.Bool.Decides.{nat_tests}
+use Rattle.lc_lemmas.proofs.Booleans.{left_true, right_true}
+use Rattle.lc_lemmas.proofs.Lists.{at_all}
 use Rattle.lc_term.specs.Updates.{variable, row, assigned}
 use Rattle.lc_term.specs.Syntax.{Term, Formula}
 use Rattle.lc_term.specs.Meaning.{State, outside, stored, Holds}
 use Rattle.lc_term.specs.State.{with_cell}
 use Rattle.lc_term.specs.Places.{known}
 use Rattle.lc_term.proofs.Agree.{value-agree, Holds-agree}
-use Rattle.lc_object.specs.Syntax.{Instr, Load, Store, Cas, Set, Faa, If, Return, Array, Point, Object}
+use Rattle.lc_object.specs.Syntax.{Instr, Load, Store, Cas, Set, Faa, If, Return, Array, Object}
 use Rattle.lc_object.specs.Syntax as O
 use Rattle.lc_object.specs.Edges.{array_columns, columns_in}
 use Rattle.lc_object.specs.WellFormed.{is_object, is_array, is_instruction, variable_count, is_code_term, are_code_terms, is_code_formula}
@@ -19,7 +21,6 @@ use Rattle.lc_machine.specs.Step.{number, numbers, with_row, Does, Outcome, Goes
 use Rattle.lc_machine.proofs.Known.{known_term, known_formula}
 use Rattle.lc_machine.proofs.ArrayColumns.{arrays_pass}
 use Rattle.lc_term.specs.Lists.{Every}
-use Rattle.lc_term.proofs.Tests.{left_true, right_true, at_all}
 use Rattle.lc_machine.proofs.Bodies.{point_is_placed}
 
 -- a column of the object

@@ -4,9 +4,11 @@ use Rattle.std.specs.Prelude.{slice_get, option_map, nat_le, nat_lt, ◌==◌}
 use Rattle.std.specs.List.{list_all}
 use Rattle.std.proofs.lemmas.Bool.Decides.{nat_tests}
 use Rattle.std.proofs.lemmas.List.{length-append, length-replicate}
-use Rattle.std.proofs.lemmas.Bool.{eqb-true}
+use Rattle.std.proofs.lemmas.Bool.{eqb-true, leb-true}
 use Rattle.std.proofs.lemmas.Option.{same_Some, slice_get_within}
-use Rattle.lc_base.specs.Limits.{local_limit, width_limit}
+use Rattle.lc_lemmas.proofs.Booleans.{left_true, right_true}
+use Rattle.lc_lemmas.proofs.Lists.{at_all}
+use Rattle.lc_base.specs.Limits.{local_limit, width_limit, argument_limit, reply_limit}
 use Rattle.lc_object.specs.Syntax.{Instr, Load, Store, Cas, Set, Faa, If, Return, Array, Operation, Point, Object}
 use Rattle.lc_object.proofs.ObjectParts.{first_stands}
 use Rattle.lc_object.specs.WellFormed.{is_object, is_point, is_instruction, is_label, is_first, has_width, has_limits, are_targets, are_operations, passes_at, variable_count}
@@ -15,11 +17,7 @@ use Rattle.lc_machine.specs.Placed.{is_placed, is_count}
 use Rattle.lc_object.specs.Edges.{columns_in}
 use Rattle.lc_machine.specs.Below.{AreBelow}
 use Rattle.lc_machine.specs.MayRun.{MayRun, HasRow, variables_at, variables_in}
-use Rattle.lc_machine.proofs.Known.{left_true, right_true}
-use Rattle.lc_machine.proofs.ArrayColumns.{at_all, points_pass, operations_pass, few_columns}
-
-le_from : (m n : ℕ) → nat_le m n ≡ true → m ≤ n
-le_from m n e = grind (arith, nat_tests)
+use Rattle.lc_machine.proofs.ArrayColumns.{points_pass, operations_pass, few_columns}
 
 -- a label of a body: there are as many variables as in the body
 label_at : (object : Object) (op l : ℕ) (o : Operation) → slice_get object.operations op ≡ Some o →
@@ -52,7 +50,7 @@ targets_below : (o : Operation) (rs : List ℕ) → are_targets o rs ≡ true �
 targets_below o rs h = below_from (2 + length o.arguments) (variable_count o) rs (right_true _ _ (left_true _ _ h))
 
 targets_few : (o : Operation) (rs : List ℕ) → are_targets o rs ≡ true → length rs ≤ local_limit
-targets_few o rs h = le_from (length rs) local_limit (left_true _ _ (left_true _ _ h))
+targets_few o rs h = leb-true (length rs) local_limit (left_true _ _ (left_true _ _ h))
 
 instruction_may_run : (object : Object) → is_object object ≡ true → (op : ℕ) (o : Operation) → slice_get object.operations op ≡ Some o → has_limits o ≡ true → (i : Instr) →
     is_instruction object op o i ≡ true → MayRun object (variable_count o) i
@@ -96,7 +94,7 @@ instruction_may_run object well op o e limits (If f l m) h =
     (left_true _ _ (left_true _ _ h), label object op l o e (right_true _ _ (left_true _ _ h)), label object op m o e (right_true _ _ h))
 instruction_may_run object well op o e limits (Return vs) h =
     let count = eqb-true (length vs) o.replies (left_true _ _ h) in
-    let few : o.replies ≤ 3 = le_from o.replies 3 (right_true (nat_le (length o.arguments) 3) (nat_le o.replies 3) (left_true (nat_le (length o.arguments) 3 && nat_le o.replies 3) (nat_le (length o.locals) local_limit) limits)) in
+    let few : o.replies ≤ reply_limit = leb-true o.replies reply_limit (right_true (nat_le (length o.arguments) argument_limit) (nat_le o.replies reply_limit) (left_true (nat_le (length o.arguments) argument_limit && nat_le o.replies reply_limit) (nat_le (length o.locals) local_limit) limits)) in
     (omega arith, right_true _ _ h)
 
 point_may_run : (object : Object) → is_object object ≡ true → (point : Point) (n : ℕ) (found : Option Operation) → slice_get object.operations point.operation ≡ found →

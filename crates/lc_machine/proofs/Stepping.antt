@@ -23,7 +23,7 @@ use Rattle.lc_machine.specs.declared.fault.StepFault.TheVariants.{NoClient, Busy
 use Rattle.std.specs.declared.vec.Vec.{Vec}
 use Rattle.std.proofs.Common.{Global}
 
-counted : (m : Option ℕ) (n : ℕ) → is_count m n ≡ true → m ≡ Some n
+pub counted : (m : Option ℕ) (n : ℕ) → is_count m n ≡ true → m ≡ Some n
 counted None n h = cc
 counted (Some m) n h = ap Some (eqb-true m n h)
 

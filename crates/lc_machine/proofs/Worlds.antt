@@ -1,13 +1,14 @@
 -- Worlds: their clients, and what a client's step makes of them.
-use Rattle.std.proofs.Common.{◌≡◌, ℕ, ℤ, ◌<◌, Bool, true, List, [], ◌∷◌, length, set, get_or, replicate, zero, suc, Some, refl, sym, ap, ap₂, ◌∙◌}
+use Rattle.std.proofs.Common.{◌≡◌, ℕ, ℤ, ◌<◌, true, List, [], ◌∷◌, length, set, get_or, replicate, zero, suc, Some, refl, sym, ap, ap₂, ◌∙◌}
 use Rattle.std.specs.Prelude.{slice_get, Result, Ok, Err}
 use Rattle.std.specs.List.{list_all}
 use Rattle.std.proofs.lemmas.List.{length-map, map-set, length-replicate}
 use Rattle.std.proofs.lemmas.Option.{same_Some}
+use Rattle.lc_lemmas.proofs.Lists.{viewed_at, set_there, all_set}
 use Rattle.lc_term.specs.Meaning.{State}
 use Rattle.lc_object.specs.Syntax.{Instr, Object}
 use Rattle.lc_machine.specs.World as W
-use Rattle.lc_machine.specs.World.{In, World, first_variables}
+use Rattle.lc_machine.specs.World.{World}
 use Rattle.lc_machine.specs.Step.{IsClient, IsRunning, after}
 use Rattle.lc_machine.specs.Placed.{is_placed, are_placed}
 use Rattle.lc_machine.specs.View.{client_of, clients_of}
@@ -18,8 +19,6 @@ use Rattle.lc_machine.specs.declared.client.Moved.{Moved}
 use Rattle.lc_machine.specs.declared.client.Moved.TheVariants.{Went, Returned}
 use Rattle.lc_machine.specs.declared.fault.StepFault.{StepFault}
 use Rattle.lc_machine.specs.declared.fault.StepFault.TheVariants.{NoClient, Busy, Idle, NoOp, Arity, Overflow, OutOfMemory}
-use Rattle.lc_machine.proofs.Known.{left_true, right_true, both_true}
-use Rattle.lc_machine.proofs.ArrayColumns.{viewed_at}
 
 -- ---- lists
 
@@ -28,18 +27,6 @@ pub set_again : {A : Type 0} (xs : List A) (i : ℕ) (x : A) → slice_get xs i 
 set_again [] i x e = cc
 set_again (y ∷ ys) zero x e = ap (λ z. z ∷ ys) (sym (same_Some y x e))
 set_again (y ∷ ys) (suc i) x e = ap (λ zs. y ∷ zs) (set_again ys i x e)
-
--- an element that is put there
-pub put_there : {A : Type 0} (xs : List A) (i : ℕ) (x y : A) → slice_get xs i ≡ Some y → slice_get (set xs i x) i ≡ Some x
-put_there [] i x y e = cc
-put_there (z ∷ zs) zero x y e = refl
-put_there (z ∷ zs) (suc i) x y e = put_there zs i x y e
-
--- each passes, and so does what is put there
-pub all_set : {A : Type 0} (p : A → Bool) (xs : List A) (i : ℕ) (x : A) → list_all p xs ≡ true → p x ≡ true → list_all p (set xs i x) ≡ true
-all_set p [] i x e h = e
-all_set p (y ∷ ys) zero x e h = both_true (p x) (list_all p ys) h (right_true (p y) (list_all p ys) e)
-all_set p (y ∷ ys) (suc i) x e h = both_true (p y) (list_all p (set ys i x)) (left_true (p y) (list_all p ys) e) (all_set p ys i x (right_true (p y) (list_all p ys) e) h)
 
 -- ---- clients
 
@@ -73,7 +60,7 @@ stepped_is_advanced object w c k k' s (Ok (Went point edge)) is (p, variables, i
     let runs = running object w c k p variables i is at in (
       (p, variables, i, runs, fits),
       (p, (variables, i, runs, s, point.0, new, does, ap (after w s c) put)),
-      (new, put_there w.clients c k' k is ∙ ap Some put),
+      (new, set_there w.clients c k' k is ∙ ap Some put),
     )
 stepped_is_advanced object w c k k' s (Ok (Returned reply)) is (p, variables, i, edge, at, fits, does, put, few) =
     let runs = running object w c k p variables i is at in
@@ -90,7 +77,7 @@ stepped_is_advanced object w c k k' s (Err Arity) is h = h
 
 -- ---- clients at first
 
-all_idle : (object : Object) (n : ℕ) → list_all (is_placed object) (replicate n W.Idle) ≡ true
+pub all_idle : (object : Object) (n : ℕ) → list_all (is_placed object) (replicate n W.Idle) ≡ true
 all_idle object zero = refl
 all_idle object (suc n) = all_idle object n
 

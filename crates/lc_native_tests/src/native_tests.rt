@@ -1,6 +1,6 @@
 //! Tests of native objects by themselves.
 use lc_base::{OpId, OutOfMemory};
-use lc_hist::{Done, Event, History, JudgeFault, Reason, judge};
+use lc_history::{Done, Event, History, JudgeFault, Reason, judge};
 use lc_native::{
     NatCounter, NatLock, NatPoolStack, NatQueue, NatSnapshot, NatStack, PoolChoice, QueueCall,
     QueueReply,

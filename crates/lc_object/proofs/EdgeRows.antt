@@ -1,7 +1,7 @@
 -- The facts and updates of rows, and the edges of points, one after another.
 use Rattle.std.proofs.Common.{◌≡◌, ℕ, ◌+◌, ◌≤◌, ◌<◌, List, [], ◌∷◌, ◌++◌, length, drop, map, refl, sym, ap, ap₂, ◌∙◌, append-nil, append_assoc, arith, get_or, rules}
 use Rattle.std.proofs.lemmas.List.{drop_more, map-append}
-use Rattle.std.proofs.Math.ListN.{drop_of_length-le}
+use Rattle.lc_lemmas.proofs.Lists.{dropped_all}
 use Rattle.lc_base.specs.declared.ids.ColId.{ColId}
 use Rattle.lc_term.specs.Syntax as T
 use Rattle.lc_term.specs.Syntax.{Read, Base, Eq}
@@ -13,9 +13,6 @@ use Rattle.lc_object.specs.Syntax as S
 use Rattle.lc_object.specs.View.{columns_of, terms_of, point_of}
 use Rattle.lc_object.specs.Edges.{row_updates, row_sums, row_facts, edges_at, edges_from, Update, Edge}
 use Rattle.lc_object.specs.declared.parts.Point.{Point}
-
-nothing_left : {A : Type 0} (xs : List A) (i : ℕ) → length xs ≤ i → drop i xs ≡ []
-nothing_left xs i h = drop_of_length-le xs h
 
 updates_none : (cs : List ℕ) (t : T.Term) → row_updates cs t [] ≡ []
 updates_none [] t = refl
@@ -32,18 +29,18 @@ sums_none (c ∷ cs) t = refl
 pub sums_end : (cs : List ColId) (t : T.Term) (ds : List Term) (i : ℕ) (done whole : List T.Term) → length ds ≤ i →
     done ++ row_sums (columns_of (drop i cs)) t (terms_of (drop i ds)) ≡ whole → done ≡ whole
 sums_end cs t ds i done whole h e =
-    sym (append-nil done) ∙ ap (λ r. done ++ r) (sym (ap (λ l. row_sums (columns_of (drop i cs)) t (terms_of l)) (nothing_left ds i h) ∙ sums_none (columns_of (drop i cs)) t)) ∙ e
+    sym (append-nil done) ∙ ap (λ r. done ++ r) (sym (ap (λ l. row_sums (columns_of (drop i cs)) t (terms_of l)) (dropped_all ds i h) ∙ sums_none (columns_of (drop i cs)) t)) ∙ e
 
 -- no term is left
 pub updates_end : (cs : List ColId) (t : T.Term) (vs : List Term) (i : ℕ) (done whole : List Update) → length vs ≤ i →
     done ++ row_updates (columns_of (drop i cs)) t (terms_of (drop i vs)) ≡ whole → done ≡ whole
 updates_end cs t vs i done whole h e =
-    sym (append-nil done) ∙ ap (λ r. done ++ r) (sym (ap (λ l. row_updates (columns_of (drop i cs)) t (terms_of l)) (nothing_left vs i h) ∙ updates_none (columns_of (drop i cs)) t)) ∙ e
+    sym (append-nil done) ∙ ap (λ r. done ++ r) (sym (ap (λ l. row_updates (columns_of (drop i cs)) t (terms_of l)) (dropped_all vs i h) ∙ updates_none (columns_of (drop i cs)) t)) ∙ e
 
 pub facts_end : (cs : List ColId) (t : T.Term) (vs : List Term) (i : ℕ) (done whole : List T.Formula) → length vs ≤ i →
     done ++ row_facts (columns_of (drop i cs)) t (terms_of (drop i vs)) ≡ whole → done ≡ whole
 facts_end cs t vs i done whole h e =
-    sym (append-nil done) ∙ ap (λ r. done ++ r) (sym (ap (λ l. row_facts (columns_of (drop i cs)) t (terms_of l)) (nothing_left vs i h) ∙ facts_none (columns_of (drop i cs)) t)) ∙ e
+    sym (append-nil done) ∙ ap (λ r. done ++ r) (sym (ap (λ l. row_facts (columns_of (drop i cs)) t (terms_of l)) (dropped_all vs i h) ∙ facts_none (columns_of (drop i cs)) t)) ∙ e
 
 -- one more fact
 pub facts_more : (cs : List ColId) (t : T.Term) (vs : List Term) (i : ℕ) (c : ColId) (v : Term) (done new : List Formula) (f : Formula) (whole : List T.Formula) →

@@ -1,6 +1,6 @@
 //! The reasons for which an order is refused are cases of the program `lc_cases`.
-use lc_base::{CLIENT_LIMIT, OpId, OutOfMemory};
-use lc_hist::{Done, Event, History, HistoryFault, JudgeFault, Reason, judge};
+use lc_base::{OpId, OutOfMemory};
+use lc_history::{CLIENT_LIMIT, Done, Event, History, HistoryFault, JudgeFault, Reason, judge};
 use lc_seq::{SeqFault, SeqObject};
 use std::alloc::Global;
 use std::test::Fail;

@@ -1,6 +1,7 @@
 //! What texts say and which are refused are cases of the program `lc_cases`.
 use lc_base::{Fault, OpId, Refusal};
-use lc_hist::{Event, History, history_from_json, history_to_json};
+use lc_hist::{history_from_json, history_to_json};
+use lc_history::{Event, History};
 use lc_seq::TextSpec;
 use lc_spec_text::spec_of;
 use std::alloc::Global;

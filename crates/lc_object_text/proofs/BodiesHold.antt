@@ -6,7 +6,9 @@ use Rattle.std.proofs.lemmas.Bool.Decides.{nat_tests}
 use Rattle.std.proofs.lemmas.List.{length-map}
 use Rattle.std.specs.Prelude.{codes, option_map, slice_get, ◌&&◌, nat_le, nat_lt}
 use Rattle.std.specs.List.{list_any}
-use Rattle.lc_base.specs.Limits.{local_limit, point_limit}
+use Rattle.lc_lemmas.proofs.Numbers.{at_least_from_test}
+use Rattle.lc_lemmas.proofs.Lists.{past_end}
+use Rattle.lc_base.specs.Limits.{local_limit, point_limit, argument_limit, reply_limit}
 use Rattle.lc_sexp.specs.TreeCode.{tree_count}
 use Rattle.lc_sexp.specs.Trees.{Tree, Trees, none, ◌▸◌}
 use Rattle.lc_reading.proofs.Holding.{Holds, holds_weaker}
@@ -17,7 +19,6 @@ use Rattle.lc_reading.specs.declared.pass.Pass.TheVariants.{Shape}
 use Rattle.lc_object.specs.Syntax.{Operation, Point}
 use Rattle.lc_object.specs.WellFormed.{has_limits}
 use Rattle.lc_object_text.proofs.BodyHolds.{IsPointOf, IsPoint, IsBody, IsBodyAt, body_holds}
-use Rattle.lc_object_text.proofs.CodeHolds.{same_name}
 use Rattle.lc_object_text.proofs.Holding.{Each, placed_holds, each_counted, each_form, AllForms, parts_of_all, some_forms, parts_counted}
 use Rattle.lc_object_text.proofs.SignatureHolds.{IsSignature, IsOperation}
 use Rattle.lc_object_text.specs.ObjectNames.{Call, Declared, Body, first_text, within_first, later, call_of, call_or, call_at, name_or, points_in, body_of, bodies_from, bodies_due}
@@ -25,6 +26,7 @@ use Rattle.lc_object_text.specs.Objects.{Signature, due_body_reading, ith_body_r
 use Rattle.lc_object_text.specs.Points.{BodyText, code_alone}
 use Rattle.lc_object_text.specs.Rows.{placed_reading}
 use Rattle.lc_object_text.specs.Sections.{parts_in}
+use Rattle.lc_text.proofs.Printed.{same_refl}
 
 -- the body of the i-th operation
 abbrev pub IsDue : Declared → ℕ → Tree → BodyText Point → Type 0
@@ -39,15 +41,12 @@ due_holds d i n t = by_body (slice_get d.bodies i) refl where
 abbrev pub AreBodies : Declared → Trees → List (BodyText Point) → Type 0
 AreBodies d ts texts = (bodies_due (length d.operations) ≤ tree_count ts) × Each (IsDue d) 0 ts texts
 
-enough : (n m : ℕ) → nat_lt n m ≡ false → m ≤ n
-enough n m h = grind (arith, nat_tests)
-
 pub bodies_hold : (d : Declared) (n m : ℕ) (ts : Trees) → Holds (AreBodies d ts) (bodies_reading d code_alone n m ts)
 bodies_hold d n m ts = by_test (nat_lt (tree_count ts) (bodies_due (length d.operations))) refl where
   by_test : (b : Bool) → nat_lt (tree_count ts) (bodies_due (length d.operations)) ≡ b → Holds (AreBodies d ts) (cond b (wrong Shape n) (placed_reading (ith_body_reading d code_alone) 0 m ts))
   by_test true e = tt
   by_test false e =
-      holds_weaker (Each (IsDue d) 0 ts) (AreBodies d ts) (placed_reading (ith_body_reading d code_alone) 0 m ts) (λ texts h. (enough (tree_count ts) (bodies_due (length d.operations)) e, h))
+      holds_weaker (Each (IsDue d) 0 ts) (AreBodies d ts) (placed_reading (ith_body_reading d code_alone) 0 m ts) (λ texts h. (at_least_from_test (tree_count ts) (bodies_due (length d.operations)) e, h))
       (placed_holds (IsDue d) (ith_body_reading d code_alone) (due_holds d) 0 m ts)
 
 -- places in lists that are joined
@@ -55,12 +54,8 @@ pub at_seam : {X : Type 0} (before behind : List X) (x : X) → slice_get (befor
 at_seam [] behind x = refl
 at_seam (y ∷ before) behind x = at_seam before behind x
 
-past_end : {X : Type 0} (before : List X) → slice_get (before ++ []) (length before) ≡ None
-past_end [] = refl
-past_end (y ∷ before) = past_end before
-
-placed_at_seam : (before behind : List (List ℕ)) (w : List ℕ) → list_any (is w) before ≡ false → place_of (before ++ w ∷ behind) w ≡ Some (length before)
-placed_at_seam [] behind w new = ap (λ b. cond b (Some 0) (option_map suc (place_of behind w))) (same_name w)
+pub placed_at_seam : (before behind : List (List ℕ)) (w : List ℕ) → list_any (is w) before ≡ false → place_of (before ++ w ∷ behind) w ≡ Some (length before)
+placed_at_seam [] behind w new = ap (λ b. cond b (Some 0) (option_map suc (place_of behind w))) (same_refl w)
 placed_at_seam (v ∷ before) behind w new =
     ap (λ b. cond b (Some 0) (option_map suc (place_of (before ++ w ∷ behind) w))) (or_parts (is w v) (list_any (is w) before) new).0
     ∙ ap (option_map suc) (placed_at_seam before behind w (or_parts (is w v) (list_any (is w) before) new).1)
@@ -125,7 +120,7 @@ call_due names before behind calls calls_before calls_behind k w v call e f long
     ap (place_of names) same ∙ ap (λ ws. place_of ws w) e ∙ placed_at_seam before behind w (sym (ap (list_any (is w)) taken) ∙ new) ∙ ap Some long in
     ap (call_at calls) placed ∙ ap call_or (ap (slice_get calls) (sym long_too) ∙ ap (λ cs. slice_get cs (length calls_before)) f ∙ at_seam calls_before calls_behind call)
 
-limits : (a r l : ℕ) → a ≤ 3 → r ≤ 3 → l ≤ local_limit → (nat_le a 3 && nat_le r 3 && nat_le l local_limit) ≡ true
+limits : (a r l : ℕ) → a ≤ argument_limit → r ≤ reply_limit → l ≤ local_limit → (nat_le a argument_limit && nat_le r reply_limit && nat_le l local_limit) ≡ true
 limits a r l h g k = grind (arith, nat_tests)
 
 -- the operation that a signature and a body make
@@ -142,7 +137,7 @@ operation_fits d b k uo us s text same locals c r = record {
   limits = limits (length s.arguments) s.replies (length text.locals) c.few c.at_most r.few;
 }
 
-same_body : (b c : Body) (o : Option Body) → o ≡ Some b → o ≡ Some c → b ≡ c
+pub same_body : (b c : Body) (o : Option Body) → o ≡ Some b → o ≡ Some c → b ≡ c
 same_body b c o e f = cc
 
 -- the bodies from the k-th operation on

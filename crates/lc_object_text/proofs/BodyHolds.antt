@@ -1,15 +1,17 @@
 -- What the points of a body that is read name is declared.
 use Rattle.std.proofs.Common.{◌≡◌, ℕ, suc, ◌+◌, ◌≤◌, ◌<◌, Bool, true, false, cond, ◌&&◌, ◌||◌, List, [], ◌∷◌, ◌++◌, length, length-append, Option, Some, None, refl, sym, ap, ◌∙◌, subst, arith, IfSome}
 use Rattle.std.proofs.lemmas.Bool.Decides.{nat_tests}
-use Rattle.std.specs.Prelude.{option_map, codes, nat_lt, nat_le, not}
+use Rattle.std.specs.Prelude.{option_map, codes, nat_lt, nat_le}
 use Rattle.std.specs.List.{list_any}
+use Rattle.std.proofs.lemmas.Bool.{and_from}
+use Rattle.lc_lemmas.proofs.Booleans.{true_unless_other}
 use Rattle.lc_base.specs.NameText.{is_name}
 use Rattle.lc_base.specs.Limits.{local_limit, point_limit}
 use Rattle.lc_sexp.specs.Parts.{fits, form_fit}
 use Rattle.lc_sexp.specs.TreeCode.{tree_count}
 use Rattle.lc_sexp.specs.Trees.{Tree, Trees, atom, list, none, ◌▸◌, item_count}
 use Rattle.lc_text.proofs.ReadHolds.{Kept, OfUsable}
-use Rattle.lc_reading.proofs.Holding.{Holds, both_holds, if_holds, holds_unit, and_true, holds_weaker}
+use Rattle.lc_reading.proofs.Holding.{Holds, both_holds, if_holds, holds_unit, holds_weaker}
 use Rattle.lc_reading.proofs.Words.{is-true}
 use Rattle.lc_reading.specs.Listed.{place_of, names_among}
 use Rattle.lc_reading.specs.Naming.{use_reading, known}
@@ -51,10 +53,10 @@ not_usable a c system None = absent system
 
 placed_variable : (count : ℕ) (o : Option ℕ) → ((k : ℕ) → o ≡ Some k → k < count) → IfSome (option_map (λ k. 2 + k) o) (λ k. is_code_variable (2 + count) k ≡ true)
 placed_variable count None h = tt
-placed_variable count (Some k) h = and_true (nat_lt 0 (2 + k)) (nat_lt (2 + k) (2 + count)) (grind (arith, nat_tests)) (let below = h k refl in grind (arith, nat_tests))
+placed_variable count (Some k) h = and_from (nat_lt 0 (2 + k)) (nat_lt (2 + k) (2 + count)) (grind (arith, nat_tests)) (let below = h k refl in grind (arith, nat_tests))
 
 self_variable : (count : ℕ) (b : Bool) (o : Option ℕ) → IfSome o (λ k. is_code_variable (2 + count) k ≡ true) → IfSome (cond b (Some 1) o) (λ k. is_code_variable (2 + count) k ≡ true)
-self_variable count true o h = and_true (nat_lt 0 1) (nat_lt 1 (2 + count)) refl (grind (arith, nat_tests))
+self_variable count true o h = and_from (nat_lt 0 1) (nat_lt 1 (2 + count)) refl (grind (arith, nat_tests))
 self_variable count false o h = h
 
 if_same : {P Q : ℕ → Type 0} (o : Option ℕ) → ((k : ℕ) → P k → Q k) → IfSome o P → IfSome o Q
@@ -76,18 +78,18 @@ code_terms d b =
       variables = variable_known b;
       columns = λ w. not_usable d.abstracts d.auxiliaries (is_system_column w) (place_of d.columns w);
       numbers = λ z. refl;
-      sums = λ t u h g. and_true (is_code_term n t) (is_code_term n u) h g;
-      differences = λ t u h g. and_true (is_code_term n t) (is_code_term n u) h g;
+      sums = λ t u h g. and_from (is_code_term n t) (is_code_term n u) h g;
+      differences = λ t u h g. and_from (is_code_term n t) (is_code_term n u) h g;
       multiples = λ z t h. h;
       reads = λ c t h g. absurd h;
-      orders = λ t u h g. and_true (is_code_term n t) (is_code_term n u) h g;
-      equations = λ t u h g. and_true (is_code_term n t) (is_code_term n u) h g;
+      orders = λ t u h g. and_from (is_code_term n t) (is_code_term n u) h g;
+      equations = λ t u h g. and_from (is_code_term n t) (is_code_term n u) h g;
       negations = λ f h. h;
       conjunctions = λ fs h. h;
       disjunctions = λ fs h. h;
-      implications = λ f g h k. and_true (is_code_formula n f) (is_code_formula n g) h k;
+      implications = λ f g h k. and_from (is_code_formula n f) (is_code_formula n g) h k;
       no_parts = refl;
-      more_parts = λ f fs h g. and_true (is_code_formula n f) (are_code_formulas n fs) h g;
+      more_parts = λ f fs h g. and_from (is_code_formula n f) (are_code_formulas n fs) h g;
     }
 
 -- targets
@@ -164,13 +166,7 @@ points_hold d b k n m (t ▸ ts) =
     holds_weaker (Each (IsPoint d b k) 0 (t ▸ ts)) (ArePoints d b k (t ▸ ts)) (points_reading d b code_alone k n m (t ▸ ts)) (λ qs h. (omega arith, h))
     (placed_holds (IsPoint d b k) (point_reading d b code_alone k) (point_holds d b k) 0 m (t ▸ ts))
 
--- a body of the expected operation
-not_another : (a b : Bool) → a ≡ true → (a && not b) ≡ false → b ≡ true
-not_another true true h g = refl
-not_another true false h g = cc
-not_another false b h g = cc
-
-placed_among : (names : List (List ℕ)) (w : List ℕ) (k : ℕ) → place_of names w ≡ Some k → list_any (is w) names ≡ true
+pub placed_among : (names : List (List ℕ)) (w : List ℕ) (k : ℕ) → place_of names w ≡ Some k → list_any (is w) names ≡ true
 placed_among [] w k e = absurd (cc)
 placed_among (v ∷ names) w k e = by_first (is w v) (place_of names w) (λ j. placed_among names w j) e where
   by_first : (b : Bool) (o : Option ℕ) → ((j : ℕ) → o ≡ Some j → list_any (is w) names ≡ true) → cond b (Some 0) (option_map suc o) ≡ Some k → (b || list_any (is w) names) ≡ true
@@ -183,7 +179,7 @@ due_name names due n (list us) h = tt
 due_name names due n (atom w) h = if_holds (λ k. w ≡ due) (is_name w) (known n w (place_of names w)) (wrong Shape n) (at_place (place_of names w) refl) tt where
   at_place : (o : Option ℕ) → place_of names w ≡ o → Holds (λ k. w ≡ due) (known n w o)
   at_place None e = tt
-  at_place (Some k) e = if_holds (λ j. w ≡ due) (is_long w) (wrong Bound n) (fine k) tt (is-true w due (not_another (list_any (is w) names) (is w due) (placed_among names w k e) h))
+  at_place (Some k) e = if_holds (λ j. w ≡ due) (is_long w) (wrong Bound n) (fine k) tt (is-true w due (true_unless_other (list_any (is w) names) (is w due) (placed_among names w k e) h))
 
 -- what is read of the body of an operation, whose parts these are
 pub record IsBody (d : Declared) (b : Body) (k : ℕ) (us : Trees) (text : BodyText Point) : Type 0 where

@@ -1,6 +1,6 @@
 -- What an instruction that is read names is declared.
 use Rattle.std.proofs.Common.{◌≡◌, ℕ, suc, ◌+◌, ◌≤◌, ◌<◌, Bool, true, false, ◌||◌, List, [], ◌∷◌, ◌++◌, length, map, Option, Some, None, refl, sym, ap, ◌∙◌, subst, arith}
-use Rattle.std.proofs.lemmas.Bool.{true≢false, or_parts}
+use Rattle.std.proofs.lemmas.Bool.{true≢false, or_parts, and_from, or_right, eqb-true}
 use Rattle.std.proofs.lemmas.Bool.Decides.{nat_tests}
 use Rattle.std.proofs.lemmas.List.Folds.{list_any-append}
 use Rattle.std.specs.Prelude.{nat_lt, nat_le, not, ◌==◌, codes, option_map}
@@ -13,7 +13,7 @@ use Rattle.lc_text.proofs.ReadHolds.{Kept, term_holds, formula_holds}
 use Rattle.lc_text.specs.Formulas.{formula_reading}
 use Rattle.lc_text.specs.Names.{Names}
 use Rattle.lc_text.specs.Terms.{pair, term_reading}
-use Rattle.lc_reading.proofs.Holding.{Holds, holds_weaker, and_holds, both_holds, ended_holds, if_holds, and_true}
+use Rattle.lc_reading.proofs.Holding.{Holds, holds_weaker, and_holds, both_holds, ended_holds, if_holds}
 use Rattle.lc_reading.specs.Listed.{declared_by}
 use Rattle.lc_reading.specs.Naming.{known}
 use Rattle.lc_reading.specs.Readings.{Reading, fine, wrong}
@@ -31,6 +31,7 @@ use Rattle.lc_object_text.specs.Heads.{head_of, own_parts}
 use Rattle.lc_object_text.specs.Instructions.{place_reading, labels_reading, load_of, load_reading, store_of, store_reading, cas_of, cas_reading, set_of, set_reading, faa_of, faa_reading, if_of, if_reading, own_reading, code_reading, return_of, return_reading, instruction_reading}
 use Rattle.lc_object_text.specs.declared.words.Head.{Head}
 use Rattle.lc_object_text.specs.declared.words.Head.TheVariants as H
+use Rattle.lc_text.proofs.Printed.{same_refl}
 
 -- terms and formulas over `count` variables
 abbrev pub IsTerm : ℕ → Term → Type 0
@@ -85,7 +86,7 @@ formula_has : (names : Names) (code : CodeNames) (low count : ℕ) → Scope nam
 formula_has names code low count scope n t = formula_holds names (IsTerm count) NoColumn (IsFormula count) (AreFormulas count) scope.terms n t
 
 -- names that are used
-found_holds : {X : Type 0} (P : X → Type 0) (n : ℕ) (w : List ℕ) (o : Option X) → ((x : X) → o ≡ Some x → P x) → Holds P (known n w o)
+pub found_holds : {X : Type 0} (P : X → Type 0) (n : ℕ) (w : List ℕ) (o : Option X) → ((x : X) → o ≡ Some x → P x) → Holds P (known n w o)
 found_holds P n w None h = tt
 found_holds P n w (Some x) h = if_holds P (is_long w) (wrong Bound n) (fine x) tt (h x refl)
 
@@ -118,7 +119,7 @@ terms_hold names code low count scope m none = (refl, refl)
 terms_hold names code low count scope m (t ▸ ts) =
     both_holds (IsTerm count) (λ vs. AreTerms count vs × (length vs ≡ tree_count ts)) (λ vs. AreTerms count vs × (length vs ≡ suc (tree_count ts))) (λ v vs. v ∷ vs)
     (term_reading names [] m t) (each_reading (term_reading names []) (m + item_count t) ts) (term_has names code low count scope m t) (terms_hold names code low count scope (m + item_count t) ts)
-    (λ v vs h g. (and_true (is_code_term count v) (are_code_terms count vs) h g.0, ap suc g.1))
+    (λ v vs h g. (and_from (is_code_term count v) (are_code_terms count vs) h g.0, ap suc g.1))
 
 abbrev ValuesOf : ℕ → Option ℕ → List Term → Type 0
 ValuesOf count width vs = AreTerms count vs × Counted width (length vs)
@@ -154,33 +155,22 @@ record NewTargets (code : CodeNames) (low count : ℕ) (before : List (List ℕ)
   fresh : (r : ℕ) → stands_in r rs ≡ true → Fresh code before r
   counted : length rs ≡ size
 
-pub same_name : (w : List ℕ) → is w w ≡ true
-same_name [] = refl
-same_name (b ∷ w) = and_true (b == b) (is w w) (grind (arith, nat_tests)) (same_name w)
-
-or_second : (a b : Bool) → b ≡ true → (a || b) ≡ true
-or_second true b h = refl
-or_second false b h = h
-
 listed_last : (before : List (List ℕ)) (w : List ℕ) → list_any (is w) (before ++ w ∷ []) ≡ true
 listed_last before w =
-    list_any-append (is w) before (w ∷ []) ∙ or_second (list_any (is w) before) (list_any (is w) (w ∷ [])) (ap (λ b. b || false) (same_name w))
+    list_any-append (is w) before (w ∷ []) ∙ or_right (list_any (is w) before) (list_any (is w) (w ∷ [])) (ap (λ b. b || false) (same_refl w))
 
 not_before : (before : List (List ℕ)) (v w : List ℕ) → list_any (is v) (before ++ w ∷ []) ≡ false → list_any (is v) before ≡ false
 not_before before v w h = (or_parts (list_any (is v) before) (list_any (is v) (w ∷ [])) (sym (list_any-append (is v) before (w ∷ [])) ∙ h)).0
 
-is_same : (m r : ℕ) → (m == r) ≡ true → m ≡ r
-is_same m r h = grind (arith, nat_tests)
-
 between : (low count r : ℕ) → low ≤ r → r < count → is_between low count r ≡ true
-between low count r h g = and_true (nat_le low r) (nat_lt r count) (grind (arith, nat_tests)) (grind (arith, nat_tests))
+between low count r h g = and_from (nat_le low r) (nat_lt r count) (grind (arith, nat_tests)) (grind (arith, nat_tests))
 
 new_target : (names : Names) (code : CodeNames) (low count : ℕ) → Scope names code low count → (before : List (List ℕ)) (size : ℕ) (w : List ℕ) (r : ℕ) (rs : List ℕ)
     → code.target w ≡ Some r → list_any (is w) before ≡ false → NewTargets code low count (before ++ w ∷ []) size rs → NewTargets code low count before (suc size) (r ∷ rs)
 new_target names code low count scope before size w r rs declared new h =
     record {
-      between = and_true (is_between low count r) (list_all (is_between low count) rs) (between low count r (scope.targets w r declared).0 (scope.targets w r declared).1) h.between;
-      distinct = and_true (not (stands_in r rs)) (are_distinct rs) (alone (stands_in r rs) refl) h.distinct;
+      between = and_from (is_between low count r) (list_all (is_between low count) rs) (between low count r (scope.targets w r declared).0 (scope.targets w r declared).1) h.between;
+      distinct = and_from (not (stands_in r rs)) (are_distinct rs) (alone (stands_in r rs) refl) h.distinct;
       fresh = λ m e. by_first m (r == m) (stands_in m rs) refl refl e;
       counted = ap suc h.counted;
     } where
@@ -189,7 +179,7 @@ new_target names code low count scope before size w r rs declared new h =
       alone false e = refl
 
       by_first : (m : ℕ) (a b : Bool) → a ≡ (r == m) → b ≡ stands_in m rs → (a || b) ≡ true → Fresh code before m
-      by_first m true b e f g = λ v of_v. subst (λ x. list_any (is x) before ≡ false) (scope.one w v m (declared ∙ ap Some (is_same r m (sym e))) of_v) new
+      by_first m true b e f g = λ v of_v. subst (λ x. list_any (is x) before ≡ false) (scope.one w v m (declared ∙ ap Some (eqb-true r m (sym e))) of_v) new
       by_first m false true e f g = λ v of_v. not_before before v w (h.fresh m (sym f) v of_v)
       by_first m false false e f g = cc
 
@@ -240,7 +230,7 @@ assigned_hold names code low count scope before m (t ▸ ts) =
     (λ cells. (AreTerms count (map (λ cell. cell.1) cells)) × (length (map (λ cell. cell.1) cells) ≡ suc (tree_count ts))) (λ x xs. x ∷ xs)
     (assignment_reading names code before m t) (declared_reading (assignment_reading names code) first_name (before ++ first_name t) (m + item_count t) ts)
     (assignment_holds names code low count scope before m t) (assigned_hold names code low count scope (before ++ first_name t) (m + item_count t) ts)
-    (λ x xs h g. (and_true (is_code_term count x.1) (are_code_terms count (map (λ cell. cell.1) xs)) h.1 g.0, ap suc g.1))
+    (λ x xs h g. (and_from (is_code_term count x.1) (are_code_terms count (map (λ cell. cell.1) xs)) h.1 g.0, ap suc g.1))
 
 abbrev AreAssigned : ℕ → ℕ → List (ℕ × Term) → Type 0
 AreAssigned low count cells =

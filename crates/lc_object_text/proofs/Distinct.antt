@@ -1,10 +1,10 @@
 -- Numbers in a row that are distinct.
 use Rattle.std.proofs.Common.{◌≡◌, ℕ, zero, suc, ◌+◌, ◌≤◌, ◌<◌, Bool, true, false, ◌||◌, cond, List, [], ◌∷◌, length, refl, sym, ap, ◌∙◌, arith}
-use Rattle.std.proofs.lemmas.Bool.{and_parts, or_parts}
+use Rattle.std.proofs.lemmas.Bool.{and_parts, or_parts, and_from, not_from_false}
 use Rattle.std.proofs.lemmas.Bool.Decides.{nat_tests}
 use Rattle.std.specs.Prelude.{not, ◌==◌, ◌&&◌, nat_le, nat_lt}
 use Rattle.std.specs.List.{list_all, list_any}
-use Rattle.lc_reading.proofs.Holding.{and_true}
+use Rattle.lc_lemmas.proofs.Booleans.{not_true}
 use Rattle.lc_object.specs.WellFormed.{are_distinct, numbers_from}
 
 -- numbers from `low` on, below the count
@@ -31,7 +31,7 @@ all_without p x [] h = refl
 all_without p x (r ∷ rs) h = by_test (r == x) (and_parts (p r) (list_all p rs) h) (λ g. all_without p x rs g) where
   by_test : (b : Bool) → (p r ≡ true) × (list_all p rs ≡ true) → (list_all p rs ≡ true → list_all p (without x rs) ≡ true) → list_all p (cond b rs (r ∷ without x rs)) ≡ true
   by_test true h f = h.1
-  by_test false h f = and_true (p r) (list_all p (without x rs)) h.0 (f h.1)
+  by_test false h f = and_from (p r) (list_all p (without x rs)) h.0 (f h.1)
 
 any_without : (p : ℕ → Bool) (x : ℕ) (rs : List ℕ) → list_any p rs ≡ false → list_any p (without x rs) ≡ false
 any_without p x [] h = refl
@@ -40,20 +40,12 @@ any_without p x (r ∷ rs) h = by_test (r == x) (or_parts (p r) (list_any p rs) 
   by_test true h f = h.1
   by_test false h f = ap (λ b. b || list_any p (without x rs)) h.0 ∙ f h.1
 
-not_true : (b : Bool) → not b ≡ true → b ≡ false
-not_true true h = cc
-not_true false h = refl
-
-pub not_false : (b : Bool) → b ≡ false → not b ≡ true
-not_false true h = cc
-not_false false h = refl
-
 still_distinct : (x : ℕ) (rs : List ℕ) → are_distinct rs ≡ true → are_distinct (without x rs) ≡ true
 still_distinct x [] h = refl
 still_distinct x (r ∷ rs) h = by_test (r == x) (and_parts (not (stands_in r rs)) (are_distinct rs) h) (λ g. still_distinct x rs g) where
   by_test : (b : Bool) → (not (stands_in r rs) ≡ true) × (are_distinct rs ≡ true) → (are_distinct rs ≡ true → are_distinct (without x rs) ≡ true) → are_distinct (cond b rs (r ∷ without x rs)) ≡ true
   by_test true h f = h.1
-  by_test false h f = and_true (not (stands_in r (without x rs))) (are_distinct (without x rs)) (not_false _ (any_without (λ m. m == r) x rs (not_true _ h.0))) (f h.1)
+  by_test false h f = and_from (not (stands_in r (without x rs))) (are_distinct (without x rs)) (not_from_false _ (any_without (λ m. m == r) x rs (not_true _ h.0))) (f h.1)
 
 same : (m n : ℕ) → true ≡ (m == n) → m ≡ n
 same m n h = grind (arith, nat_tests)
@@ -76,7 +68,7 @@ narrower low n [] h g = refl
 narrower low n (r ∷ rs) h g =
     let a = and_parts (is_between low (low + suc n) r) (list_all (is_between low (low + suc n)) rs) h in
     let b = or_parts (r == low + n) (stands_in (low + n) rs) g in
-    and_true (is_between low (low + n) r) (list_all (is_between low (low + n)) rs) (closer low n r a.0 b.0) (narrower low n rs a.1 b.1)
+    and_from (is_between low (low + n) r) (list_all (is_between low (low + n)) rs) (closer low n r a.0 b.0) (narrower low n rs a.1 b.1)
 
 -- there are no more distinct numbers than places for them
 pub few_between : (n low : ℕ) (rs : List ℕ) → list_all (is_between low (low + n)) rs ≡ true → are_distinct rs ≡ true → length rs ≤ n
@@ -101,4 +93,4 @@ not_among n m (suc k) h = ap (λ b. b || stands_in n (numbers_from (suc m) k)) (
 
 pub one_after_other : (n k : ℕ) → are_distinct (numbers_from n k) ≡ true
 one_after_other n zero = refl
-one_after_other n (suc k) = and_true (not (stands_in n (numbers_from (suc n) k))) (are_distinct (numbers_from (suc n) k)) (not_false _ (not_among n (suc n) k (omega arith))) (one_after_other (suc n) k)
+one_after_other n (suc k) = and_from (not (stands_in n (numbers_from (suc n) k))) (are_distinct (numbers_from (suc n) k)) (not_from_false _ (not_among n (suc n) k (omega arith))) (one_after_other (suc n) k)

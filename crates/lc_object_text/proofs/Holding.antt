@@ -3,6 +3,7 @@ use Rattle.std.proofs.Common.{◌≡◌, ℕ, zero, suc, ◌+◌, ◌≤◌, ◌
 use Rattle.std.proofs.lemmas.Bool.Decides.{nat_tests}
 use Rattle.std.specs.Prelude.{nat_le, nat_lt, ◌||◌}
 use Rattle.std.specs.List.{list_any}
+use Rattle.lc_lemmas.proofs.Numbers.{at_least_from_test}
 use Rattle.lc_base.specs.NameText.{is_name}
 use Rattle.lc_sexp.specs.Parts.{fits, misshapen, form_fit}
 use Rattle.lc_sexp.specs.TreeCode.{tree_count}
@@ -108,15 +109,12 @@ none_behind (suc k) m none h = absurd (omega (arith, h))
 none_behind (suc k) m (t ▸ ts) h =
     holds_weaker (λ (u : Unit {0}). tree_count ts ≡ k) (λ (u : Unit {0}). suc (tree_count ts) ≡ suc k) (ended_behind k (m + item_count t) ts (fine tt)) (λ u e. ap suc e) (none_behind k (m + item_count t) ts (omega (arith, h)))
 
-enough : (n m : ℕ) → nat_lt n m ≡ false → m ≤ n
-enough n m h = grind (arith, nat_tests)
-
 pub counted_holds : (due : Option ℕ) (n m : ℕ) (ts : Trees) → Holds (λ u. Counted due (tree_count ts)) (count_reading due n m ts)
 counted_holds None n m ts = tt
 counted_holds (Some due) n m ts = by_test (nat_lt (tree_count ts) due) refl where
   by_test : (b : Bool) → nat_lt (tree_count ts) due ≡ b → Holds (λ (u : Unit {0}). tree_count ts ≡ due) (cond b (wrong Shape n) (ended_behind due m ts (fine tt)))
   by_test true e = tt
-  by_test false e = none_behind due m ts (enough (tree_count ts) due e)
+  by_test false e = none_behind due m ts (at_least_from_test (tree_count ts) due e)
 
 pub row_holds : {X : Type 0} (P : Trees → X → Type 0) (due : Option ℕ) (R : X → Type 0) (read : ℕ → Trees → Reading X) (n : ℕ) (t : Tree) → ((m : ℕ) (ts : Trees) → Holds (P ts) (read m ts))
     → ((ts : Trees) (x : X) → Counted due (tree_count ts) → P ts x → R x) → Holds R (row_reading due read n t)

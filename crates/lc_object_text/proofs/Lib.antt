@@ -1,10 +1,9 @@
 mod SectionWalk
 mod Placed
-mod PlacedRows
+pub mod PlacedRows
 mod Ends
-mod Behind
 mod PointWalk
-mod Distinct
+pub mod Distinct
 pub mod Holding
 pub mod CodeHolds
 pub mod BodyHolds

@@ -46,7 +46,3 @@ operations_done xs all e ss [] none h = sym (append-nil xs) ∙ ap (λ ys. xs ++
   no_operations [] = refl
   no_operations (s ∷ ss) = refl
 operations_done xs all e ss (b ∷ bs) none h = absurd (cc)
-
-pub no_items : {X : Type 0} (xs : List X) → length xs ≡ 0 → xs ≡ []
-no_items [] e = refl
-no_items (x ∷ xs) e = absurd (cc)

@@ -1,21 +1,22 @@
 -- What makes an object well-formed: its arrays have their spans, and what its points name is declared.
-use Rattle.std.proofs.Common.{◌≡◌, ℕ, zero, suc, ◌+◌, ◌-◌, ◌≤◌, ◌<◌, Bool, true, false, ◌&&◌, ◌||◌, not, List, [], ◌∷◌, ◌++◌, length, length-append, append_assoc, Option, Some, None, refl, sym, ap, ◌∙◌, subst, arith}
+use Rattle.std.proofs.Common.{◌≡◌, ℕ, zero, suc, ◌+◌, ◌-◌, ◌≤◌, ◌<◌, Bool, true, false, ◌&&◌, not, List, [], ◌∷◌, ◌++◌, length, length-append, append_assoc, Option, Some, None, refl, sym, ap, ◌∙◌, subst, arith}
 use Rattle.std.proofs.lemmas.Bool.Decides.{nat_tests}
 use Rattle.std.proofs.lemmas.List.Folds.{list_all-append}
 use Rattle.std.specs.Prelude.{option_map, slice_get, ◌==◌, nat_lt, nat_le}
 use Rattle.std.specs.List.{list_all, list_any}
-use Rattle.lc_base.specs.Limits.{local_limit, point_limit, width_limit}
+use Rattle.std.proofs.lemmas.Bool.{and_from, not_from_false, eq-eqb, le-leb, or_from}
+use Rattle.lc_lemmas.proofs.Booleans.{left_true, right_true, and_six}
+use Rattle.lc_lemmas.proofs.Lists.{get_in_front}
+use Rattle.lc_base.specs.Limits.{local_limit, point_limit, width_limit, argument_limit, reply_limit}
 use Rattle.lc_sexp.specs.TreeCode.{tree_count}
 use Rattle.lc_sexp.specs.Trees.{Trees}
-use Rattle.lc_reading.proofs.Holding.{and_true}
-use Rattle.lc_term.proofs.Tests.{left_true, right_true}
 use Rattle.lc_reading.specs.Listed.{place_of}
 use Rattle.lc_object_text.proofs.ArrayHolds.{HaveSpans, columns_count}
 use Rattle.lc_object_text.proofs.BodiesHold.{at_seam, IsOperationOf, AreOperationsOf, ArePointsOf, BodyPoints, ArePoints}
 use Rattle.lc_object_text.proofs.BodyHolds.{first_local, variables_in, shifted_target}
 use Rattle.lc_object_text.proofs.CodeHolds.{AreTargets, Fits, IsLabel, IsRow}
 use Rattle.lc_object_text.proofs.Holding.{Counted}
-use Rattle.lc_object_text.proofs.Distinct.{is_between, few_between, not_false, as_many, not_among, one_after_other}
+use Rattle.lc_object_text.proofs.Distinct.{is_between, few_between, as_many, not_among, one_after_other}
 use Rattle.lc_reading.proofs.Places.{place_below}
 use Rattle.lc_object_text.specs.CodeNames.{CodeNames}
 use Rattle.lc_object_text.specs.ObjectNames.{Span, Declared, Body, later, spans_from, row_at, body_names}
@@ -28,23 +29,14 @@ and_three a b c h g k = cc
 and_four : (a b c d : Bool) → a ≡ true → b ≡ true → c ≡ true → d ≡ true → (a && b && c && d) ≡ true
 and_four a b c d h g k i = cc
 
-and_six : (a b c d e f : Bool) → a ≡ true → b ≡ true → c ≡ true → d ≡ true → e ≡ true → f ≡ true → (a && b && c && d && e && f) ≡ true
-and_six a b c d e f p q r s t u = cc
-
 and_seven : (a b c d e f g : Bool) → a ≡ true → b ≡ true → c ≡ true → d ≡ true → e ≡ true → f ≡ true → g ≡ true → (a && b && c && d && e && f && g) ≡ true
 and_seven a b c d e f g p q r s t u v = cc
-
-is_equal : (m n : ℕ) → m ≡ n → (m == n) ≡ true
-is_equal m n e = grind (arith, nat_tests)
-
-pub is_at_most : (m n : ℕ) → m ≤ n → nat_le m n ≡ true
-is_at_most m n h = grind (arith, nat_tests)
 
 -- targets of an operation, whose locals are few
 targets_are : (o : Operation) (rs : List ℕ) → length o.locals ≤ local_limit → AreTargets (2 + length o.arguments) (variable_count o) rs → are_targets o rs ≡ true
 targets_are o rs few h =
     let many : length rs ≤ length o.locals = few_between (length o.locals) (2 + length o.arguments) rs h.0 h.1 in
-    and_three (nat_le (length rs) local_limit) (list_all (is_between (2 + length o.arguments) (variable_count o)) rs) (are_distinct rs) (is_at_most (length rs) local_limit (omega (arith, many, few))) h.0 h.1
+    and_three (nat_le (length rs) local_limit) (list_all (is_between (2 + length o.arguments) (variable_count o)) rs) (are_distinct rs) (le-leb (length rs) local_limit (omega (arith, many, few))) h.0 h.1
 
 counted_of : (o : Option ℕ) (m n : ℕ) → Counted o n → o ≡ Some m → n ≡ m
 counted_of None m n h e = cc
@@ -61,14 +53,14 @@ instruction_is object op o code rows labels replies few (Cas a t old new l m) h 
     and_seven (has_width object a (length old)) (has_width object a (length new)) (is_code_term (variable_count o) t) (are_code_terms (variable_count o) old) (are_code_terms (variable_count o) new) (is_label object op l) (is_label object op m)
     (rows a (length old) h.0.0) (rows a (length new) h.0.1) h.1 h.2.0 h.2.1 (labels l h.3.0) (labels m h.3.1)
 instruction_is object op o code rows labels replies few (Set rs vs l) h =
-    and_four (length vs == length rs) (are_targets o rs) (are_code_terms (variable_count o) vs) (is_label object op l) (is_equal (length vs) (length rs) h.0) (targets_are o rs few h.1) h.2 (labels l h.3)
+    and_four (length vs == length rs) (are_targets o rs) (are_code_terms (variable_count o) vs) (is_label object op l) (eq-eqb (length vs) (length rs) h.0) (targets_are o rs few h.1) h.2 (labels l h.3)
 instruction_is object op o code rows labels replies few (Faa a t rs ds l) h =
     and_six (has_width object a (length rs)) (has_width object a (length ds)) (is_code_term (variable_count o) t) (are_targets o rs) (are_code_terms (variable_count o) ds) (is_label object op l)
     (rows a (length rs) h.0.0) (rows a (length ds) h.0.1) h.1 (targets_are o rs few h.2) h.3 (labels l h.4)
 instruction_is object op o code rows labels replies few (If f l m) h =
     and_three (is_code_formula (variable_count o) f) (is_label object op l) (is_label object op m) h.0 (labels l h.1.0) (labels m h.1.1)
 instruction_is object op o code rows labels replies few (Return vs) h =
-    and_true (length vs == o.replies) (are_code_terms (variable_count o) vs) (is_equal (length vs) o.replies (counted_of code.replies o.replies (length vs) h.0 replies)) h.1
+    and_from (length vs == o.replies) (are_code_terms (variable_count o) vs) (eq-eqb (length vs) o.replies (counted_of code.replies o.replies (length vs) h.0 replies)) h.1
 
 -- arrays
 same_pair : (x y : ℕ × ℕ) → Some x ≡ Some y → x ≡ y
@@ -88,7 +80,7 @@ array_at [] arrays k span h e = cc
 array_at (x ∷ spans) [] k span h e = absurd h
 array_at (x ∷ spans) (array ∷ arrays) zero span h e =
     let same : x ≡ span = cc in
-    is_equal (length array.columns) span.width (ap length h.0 ∙ as_many x.first x.width ∙ ap (λ (y : Span). y.width) same)
+    eq-eqb (length array.columns) span.width (ap length h.0 ∙ as_many x.first x.width ∙ ap (λ (y : Span). y.width) same)
 array_at (x ∷ spans) (array ∷ arrays) (suc k) span h e = array_at spans arrays k span h.2 e
 
 pub rows_are : (object : Object) (d : Declared) (b : Body) → HaveSpans d.spans object.arrays → (a width : ℕ) → IsRow (body_names d b) a width → has_width object a width ≡ true
@@ -102,7 +94,7 @@ concrete a c n h g = grind (arith, nat_tests)
 columns_are : (a c n k : ℕ) → a ≤ n → n + k ≤ a + c → list_all (λ m. nat_le a m && nat_lt (m - a) c) (numbers_from n k) ≡ true
 columns_are a c n zero h g = refl
 columns_are a c n (suc k) h g =
-    and_true (nat_le a n && nat_lt (n - a) c) (list_all (λ m. nat_le a m && nat_lt (m - a) c) (numbers_from (suc n) k)) (concrete a c n h (omega (arith, g))) (columns_are a c (suc n) k (omega (arith, h)) (omega (arith, g)))
+    and_from (nat_le a n && nat_lt (n - a) c) (list_all (λ m. nat_le a m && nat_lt (m - a) c) (numbers_from (suc n) k)) (concrete a c n h (omega (arith, g))) (columns_are a c (suc n) k (omega (arith, h)) (omega (arith, g)))
 
 width_is : (n : ℕ) → 1 ≤ n → n ≤ width_limit → is_width n ≡ true
 width_is n low high = grind (arith, nat_tests)
@@ -118,14 +110,11 @@ arrays_are object k (ts ∷ forms) (array ∷ arrays) h low high =
     let a = length object.abstracts in
     let c = length object.concretes in
     let test = λ (m : ℕ). nat_le a m && nat_lt (m - a) c in
-    and_true (is_array object array) (list_all (is_array object) arrays)
+    and_from (is_array object array) (list_all (is_array object) arrays)
     (subst (λ columns. (is_width (length columns) && are_distinct columns && list_all test columns) ≡ true) (sym h.0)
     (and_three (is_width (length (numbers_from k width))) (are_distinct (numbers_from k width)) (list_all test (numbers_from k width))
     (width_is (length (numbers_from k width)) (omega (arith, as_many k width, h.1.0)) (omega (arith, as_many k width, h.1.1))) (one_after_other k width) (columns_are a c k width low (omega (arith, high)))))
     (arrays_are object (k + width) forms arrays h.2 (omega (arith, low)) (omega (arith, high)))
-
-either_false : (a b : Bool) → a ≡ false → b ≡ false → (a || b) ≡ false
-either_false a b h g = cc
 
 -- no column before those of arrays in a row is in them
 before_spans : (k j : ℕ) (forms : List Trees) (arrays : List Array) → HaveSpans (spans_from k forms) arrays → j < k → stands_in arrays j ≡ false
@@ -134,12 +123,12 @@ before_spans k j [] (array ∷ arrays) h low = absurd h
 before_spans k j (ts ∷ forms) [] h low = absurd h
 before_spans k j (ts ∷ forms) (array ∷ arrays) h low =
     let width = tree_count (later ts) in
-    either_false (list_any (λ d. d == j) array.columns) (stands_in arrays j) (ap (list_any (λ d. d == j)) h.0 ∙ not_among j k width low) (before_spans (k + width) j forms arrays h.2 (omega (arith, low)))
+    or_from (list_any (λ d. d == j) array.columns) (stands_in arrays j) (ap (list_any (λ d. d == j)) h.0 ∙ not_among j k width low) (before_spans (k + width) j forms arrays h.2 (omega (arith, low)))
 
 none_before : (n width k : ℕ) (forms : List Trees) (arrays : List Array) → HaveSpans (spans_from k forms) arrays → n + width ≤ k → list_any (stands_in arrays) (numbers_from n width) ≡ false
 none_before n zero k forms arrays h low = refl
 none_before n (suc width) k forms arrays h low =
-    either_false (stands_in arrays n) (list_any (stands_in arrays) (numbers_from (suc n) width)) (before_spans k n forms arrays h (omega (arith, low))) (none_before (suc n) width k forms arrays h (omega (arith, low)))
+    or_from (stands_in arrays n) (list_any (stands_in arrays) (numbers_from (suc n) width)) (before_spans k n forms arrays h (omega (arith, low))) (none_before (suc n) width k forms arrays h (omega (arith, low)))
 
 -- arrays in a row share no column
 pub spans_are_apart : (k : ℕ) (forms : List Trees) (arrays : List Array) → HaveSpans (spans_from k forms) arrays → are_apart arrays ≡ true
@@ -148,25 +137,19 @@ spans_are_apart k [] (array ∷ arrays) h = absurd h
 spans_are_apart k (ts ∷ forms) [] h = absurd h
 spans_are_apart k (ts ∷ forms) (array ∷ arrays) h =
     let width = tree_count (later ts) in
-    and_true (not (list_any (stands_in arrays) array.columns)) (are_apart arrays)
-    (not_false (list_any (stands_in arrays) array.columns) (ap (list_any (stands_in arrays)) h.0 ∙ none_before k width (k + width) forms arrays h.2 (omega arith)))
+    and_from (not (list_any (stands_in arrays) array.columns)) (are_apart arrays)
+    (not_from_false (list_any (stands_in arrays) array.columns) (ap (list_any (stands_in arrays)) h.0 ∙ none_before k width (k + width) forms arrays h.2 (omega arith)))
     (spans_are_apart (k + width) forms arrays h.2)
-
--- points
-in_front : {X : Type 0} (xs ys : List X) (i : ℕ) → i < length xs → slice_get (xs ++ ys) i ≡ slice_get xs i
-in_front [] ys i h = absurd (omega (arith, h))
-in_front (x ∷ xs) ys zero h = refl
-in_front (x ∷ xs) ys (suc i) h = in_front xs ys i (omega (arith, h))
 
 in_middle : {X : Type 0} (before xs ys : List X) (i j : ℕ) → i ≡ length before + j → j < length xs → slice_get (before ++ (xs ++ ys)) i ≡ slice_get xs j
 in_middle [] xs ys i j e h =
-    let same : i ≡ j = omega (arith, e) in ap (slice_get (xs ++ ys)) same ∙ in_front xs ys j h
+    let same : i ≡ j = omega (arith, e) in ap (slice_get (xs ++ ys)) same ∙ get_in_front xs ys j h
 in_middle (x ∷ before) xs ys zero j e h = absurd (omega (arith, e))
 in_middle (x ∷ before) xs ys (suc i) j e h = in_middle before xs ys i j (omega (arith, e)) h
 
 point_at : (d : Declared) (b : Body) (k : ℕ) (own : List Point) (j : ℕ) → ArePointsOf d b k own → j < length own → passes_at (λ (point : Point). point.operation == k) (slice_get own j) ≡ true
 point_at d b k [] j h below = absurd (omega (arith, below))
-point_at d b k (q ∷ own) zero h below = is_equal q.operation k h.0.0
+point_at d b k (q ∷ own) zero h below = eq-eqb q.operation k h.0.0
 point_at d b k (q ∷ own) (suc j) h below = point_at d b k own j h.1 (omega (arith, below))
 
 label_at : (object : Object) (d : Declared) (b : Body) (k : ℕ) (before own others : List Point) (i j : ℕ) → object.points ≡ before ++ (own ++ others) → ArePointsOf d b k own → i ≡ length before + j → j < length own
@@ -190,22 +173,22 @@ its_own n k e = grind (arith, nat_tests)
 still_early : (k : ℕ) (qs : List Point) → AreEarly k qs → AreEarly (k + 1) qs
 still_early k [] h = refl
 still_early k (q ∷ qs) h =
-    and_true (nat_lt q.operation (k + 1)) (list_all (λ (q : Point). nat_lt q.operation (k + 1)) qs) (one_later q.operation k (left_true (nat_lt q.operation k) _ h)) (still_early k qs (right_true (nat_lt q.operation k) _ h))
+    and_from (nat_lt q.operation (k + 1)) (list_all (λ (q : Point). nat_lt q.operation (k + 1)) qs) (one_later q.operation k (left_true (nat_lt q.operation k) _ h)) (still_early k qs (right_true (nat_lt q.operation k) _ h))
 
 own_early : (d : Declared) (b : Body) (k : ℕ) (own : List Point) → ArePointsOf d b k own → AreEarly (k + 1) own
 own_early d b k [] h = refl
-own_early d b k (q ∷ own) h = and_true (nat_lt q.operation (k + 1)) (list_all (λ (q : Point). nat_lt q.operation (k + 1)) own) (its_own q.operation k h.0.0) (own_early d b k own h.1)
+own_early d b k (q ∷ own) h = and_from (nat_lt q.operation (k + 1)) (list_all (λ (q : Point). nat_lt q.operation (k + 1)) own) (its_own q.operation k h.0.0) (own_early d b k own h.1)
 
 both_early : (d : Declared) (b : Body) (k : ℕ) (before own : List Point) → AreEarly k before → ArePointsOf d b k own → AreEarly (k + 1) (before ++ own)
 both_early d b k before own h g =
     list_all-append (λ (q : Point). nat_lt q.operation (k + 1)) before own
-    ∙ and_true (list_all (λ (q : Point). nat_lt q.operation (k + 1)) before) (list_all (λ (q : Point). nat_lt q.operation (k + 1)) own) (still_early k before h) (own_early d b k own g)
+    ∙ and_from (list_all (λ (q : Point). nat_lt q.operation (k + 1)) before) (list_all (λ (q : Point). nat_lt q.operation (k + 1)) own) (still_early k before h) (own_early d b k own g)
 
 -- the first point after those of earlier bodies is the first of its own
 first_behind : (k : ℕ) (before rest : List Point) (q : Point) → AreEarly k before → q.operation ≡ k → is_first (before ++ q ∷ rest) k (length before) ≡ true
-first_behind k [] rest q h e = is_equal q.operation k e
+first_behind k [] rest q h e = eq-eqb q.operation k e
 first_behind k (p ∷ before) rest q h e =
-    and_true (not (p.operation == k)) (is_first (before ++ q ∷ rest) k (length before)) (earlier p.operation k (left_true (nat_lt p.operation k) _ h)) (first_behind k before rest q (right_true (nat_lt p.operation k) _ h) e)
+    and_from (not (p.operation == k)) (is_first (before ++ q ∷ rest) k (length before)) (earlier p.operation k (left_true (nat_lt p.operation k) _ h)) (first_behind k before rest q (right_true (nat_lt p.operation k) _ h) e)
 
 entry_first : (object : Object) (d : Declared) (b : Body) (k : ℕ) (before own others : List Point) (i : ℕ) → object.points ≡ before ++ (own ++ others) → ArePointsOf d b k own → i ≡ length before → 1 ≤ length own → AreEarly k before
     → is_first object.points k i ≡ true
@@ -216,11 +199,11 @@ entry_first object d b k before (q ∷ own) others i e h at some early =
 point_is : (object : Object) (k : ℕ) (o : Operation) (q : Point) → q.operation ≡ k → slice_get object.operations k ≡ Some o → has_limits o ≡ true → is_instruction object k o q.instruction ≡ true → is_point object q ≡ true
 point_is object k o q e at limits h =
     ap (λ n. passes_at (λ (x : Operation). has_limits x && is_instruction object n x q.instruction) (slice_get object.operations n)) e
-    ∙ ap (passes_at (λ (x : Operation). has_limits x && is_instruction object k x q.instruction)) at ∙ and_true (has_limits o) (is_instruction object k o q.instruction) limits h
+    ∙ ap (passes_at (λ (x : Operation). has_limits x && is_instruction object k x q.instruction)) at ∙ and_from (has_limits o) (is_instruction object k o q.instruction) limits h
 
 few_locals : (o : Operation) → has_limits o ≡ true → length o.locals ≤ local_limit
 few_locals o h = third (length o.arguments) o.replies (length o.locals) h where
-  third : (a r l : ℕ) → (nat_le a 3 && nat_le r 3 && nat_le l local_limit) ≡ true → l ≤ local_limit
+  third : (a r l : ℕ) → (nat_le a argument_limit && nat_le r reply_limit && nat_le l local_limit) ≡ true → l ≤ local_limit
   third a r l h = grind (arith, nat_tests)
 
 points_are : (object : Object) (d : Declared) (b : Body) (k : ℕ) (o : Operation) → HaveSpans d.spans object.arrays → slice_get object.operations k ≡ Some o → IsOperationOf b o
@@ -231,7 +214,7 @@ points_are object d b k o spans at of_b labels (q ∷ own) h =
     let count : variables_in b ≡ variable_count o = omega (arith, of_b.arguments, of_b.locals) in
     let fit : Fits (body_names d b) (2 + length o.arguments) (variable_count o) q.instruction =
     subst (λ n. Fits (body_names d b) n (variable_count o) q.instruction) low (subst (λ n. Fits (body_names d b) (first_local b) n q.instruction) count h.0.1) in
-    and_true (is_point object q) (list_all (is_point object) own)
+    and_from (is_point object q) (list_all (is_point object) own)
     (point_is object k o q h.0.0 at of_b.limits
     (instruction_is object k o (body_names d b) (rows_are object d b spans) labels of_b.replies (few_locals o of_b.limits) q.instruction fit))
     (points_are object d b k o spans at of_b labels own h.1)
@@ -265,7 +248,7 @@ bodies_are object d spans k p (b ∷ bs) (o ∷ os) qs before points_before e lo
     let next : are_operations object (suc k) os ≡ true = subst (λ n. are_operations object n os ≡ true) (let same : k + 1 ≡ suc k = omega arith in same) rest.operations in
     record {
       operations = and_three (has_limits o) (is_first object.points k o.entry) (are_operations object (suc k) os) g.0.limits entry next;
-      points = ap (list_all (is_point object)) c.split ∙ list_all-append (is_point object) own others ∙ and_true (list_all (is_point object) own) (list_all (is_point object) others)
+      points = ap (list_all (is_point object)) c.split ∙ list_all-append (is_point object) own others ∙ and_from (list_all (is_point object) own) (list_all (is_point object) others)
           (points_are object d b k o spans at g.0 labels own c.fit) rest.points;
       few = omega (arith, ap length c.split, length-append own others, rest.few);
     }

@@ -1,8 +1,10 @@
 -- An object that a file reads as is well-formed.
-use Rattle.std.proofs.Common.{◌≡◌, ℕ, zero, suc, ◌+◌, ◌≤◌, Bool, true, ◌&&◌, List, [], ◌∷◌, length, map, None, refl, sym, ap, ◌∙◌, subst, arith}
+use Rattle.std.proofs.Common.{◌≡◌, ℕ, zero, suc, ◌+◌, ◌≤◌, true, List, [], ◌∷◌, length, map, None, refl, sym, ap, ◌∙◌, subst, arith}
 use Rattle.std.proofs.lemmas.List.{length-map}
 use Rattle.std.specs.Prelude.{codes, nat_le}
 use Rattle.std.specs.List.{list_all}
+use Rattle.std.proofs.lemmas.Bool.{le-leb}
+use Rattle.lc_lemmas.proofs.Booleans.{and_six}
 use Rattle.lc_base.specs.Limits.{operation_limit, point_limit}
 use Rattle.lc_sexp.specs.Parts.{fits, form_fit}
 use Rattle.lc_sexp.specs.TreeCode.{tree_count}
@@ -16,7 +18,7 @@ use Rattle.lc_object.specs.WellFormed.{is_array, is_point, are_operations, are_a
 use Rattle.lc_object_text.proofs.ArrayHolds.{AreArrays, arrays_hold, concretes_counted, HaveSpans, spans_have}
 use Rattle.lc_object_text.proofs.BodiesHold.{AreBodies, bodies_hold, AreOperationsOf, ArePoints, bodies_fit}
 use Rattle.lc_object_text.proofs.Holding.{each_counted, each_few, each_form, parts_of_all, some_forms, parts_counted}
-use Rattle.lc_object_text.proofs.ObjectChecks.{BodiesAre, is_at_most, arrays_are, spans_are_apart, bodies_are}
+use Rattle.lc_object_text.proofs.ObjectChecks.{BodiesAre, arrays_are, spans_are_apart, bodies_are}
 use Rattle.lc_object_text.proofs.SignatureHolds.{IsOperation, AreOperations, columns_behind, IsSpecification, specification_holds}
 use Rattle.lc_object_text.specs.ObjectNames.{Declared, Body, Call, first_text, later, call_of, names_of_columns, parts_in_first, points_in, bodies_due, bodies_from, abstracts_in, arrays_in, operations_in, spans_from, declared_in, declared_in_sections}
 use Rattle.lc_object_text.specs.Objects.{SpecificationText, Tables, tables_of, first_reading, array_reading, arrays_reading, auxiliaries_reading, tables_reading, bodies_reading, object_reading, specification_reading, second_form_reading, operations_from, points_of, object_of, file_reading}
@@ -40,11 +42,11 @@ pub columns_counted : (ts : Trees) → length (names_of_columns (parts_in_first 
 columns_counted none = refl
 columns_counted (t ▸ ts) = names_counted (parts_in (codes "abstract") t)
 
-behind_one : (n : ℕ) (ts : Trees) → (behind_item n ts).trees ≡ later ts
+pub behind_one : (n : ℕ) (ts : Trees) → (behind_item n ts).trees ≡ later ts
 behind_one n none = refl
 behind_one n (t ▸ ts) = refl
 
-behind_two : (n : ℕ) (ts : Trees) → (behind_first (behind_item n ts)).trees ≡ later (later ts)
+pub behind_two : (n : ℕ) (ts : Trees) → (behind_first (behind_item n ts)).trees ≡ later (later ts)
 behind_two n none = refl
 behind_two n (t ▸ ts) = behind_one (n + item_count t) ts
 
@@ -117,9 +119,6 @@ code_fits s text object h g =
       few = omega (arith, operations_counted d.bodies (operations_from 0 text.signatures object.1) fit.0, bodies_counted d.operations d.calls 0 0 (bodies_due (length (operations_in s))) ts, due, size, room);
     }
 
-and_six : (a b c d e f : Bool) → a ≡ true → b ≡ true → c ≡ true → d ≡ true → e ≡ true → f ≡ true → (a && b && c && d && e && f) ≡ true
-and_six a b c d e f p q r s t u = cc
-
 object_is : (s : Sections) (text : SpecificationText) (object : Tables × List (BodyText Point)) → SpecificationFits (declared_in_sections s) s text → ObjectFits (declared_in_sections s) s object
     → is_object (object_of text object) ≡ true
 object_is s text object h g =
@@ -129,7 +128,7 @@ object_is s text object h g =
     let spans : HaveSpans d.spans o.arrays = subst (λ n. HaveSpans (spans_from n (arrays_in s)) o.arrays) h.abstracts (spans_have (length text.abstracts) (arrays_in s) object.0.arrays g.0) in
     let all : BodiesAre o 0 0 o.operations o.points = bodies_are o d spans 0 0 d.bodies o.operations o.points [] [] refl refl refl refl refl c.operations_fit c.points_fit in
     and_six (are_apart o.arrays) (nat_le (length o.operations) operation_limit) (nat_le (length o.points) point_limit) (list_all (is_array o) o.arrays) (are_operations o 0 o.operations) (list_all (is_point o) o.points)
-    (spans_are_apart d.abstracts (arrays_in s) o.arrays spans) (is_at_most (length o.operations) operation_limit c.few) (is_at_most (length o.points) point_limit (omega (arith, all.few)))
+    (spans_are_apart d.abstracts (arrays_in s) o.arrays spans) (le-leb (length o.operations) operation_limit c.few) (le-leb (length o.points) point_limit (omega (arith, all.few)))
     (arrays_are o d.abstracts (arrays_in s) o.arrays spans (omega (arith, h.abstracts)) (omega (arith, h.abstracts, concretes_counted (arrays_in s) object.0.arrays g.0))) all.operations all.points
 
 file_holds : (ts : Trees) → Holds (λ o. is_object o ≡ true) (file_reading ts)

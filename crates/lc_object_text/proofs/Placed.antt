@@ -6,8 +6,10 @@ use Rattle.std.specs.Prelude.{option_map, ◌||◌, nat_lt}
 use Rattle.std.specs.List.{list_any}
 use Rattle.std.specs.Option.{option_or}
 use Rattle.std.proofs.lemmas.Bool.Decides.{nat_tests}
+use Rattle.lc_lemmas.proofs.Numbers.{later_test, first_test}
 use Rattle.lc_reading.specs.Words.{is}
 use Rattle.lc_reading.specs.Listed.{place_of}
+use Rattle.lc_reading.proofs.Places.{place_behind}
 
 -- the place is before this one
 abbrev pub is_before : ℕ → Option ℕ → Bool
@@ -18,16 +20,10 @@ never : (o : Option ℕ) → false ≡ is_before 0 o
 never None = refl
 never (Some p) = grind (arith, nat_tests)
 
-later : (p k : ℕ) → nat_lt p k ≡ nat_lt (suc p) (suc k)
-later p k = grind (arith, nat_tests)
-
-first : (k : ℕ) → true ≡ nat_lt 0 (suc k)
-first k = grind (arith, nat_tests)
-
 step : (here b : Bool) (k : ℕ) (o : Option ℕ) → b ≡ is_before k o → (here || b) ≡ is_before (suc k) (cond here (Some 0) (option_map suc o))
-step true b k o e = first k
+step true b k o e = first_test k
 step false b k None e = e
-step false b k (Some p) e = e ∙ later p k
+step false b k (Some p) e = e ∙ later_test p k
 
 -- a name is among the first of names exactly if its first place is before
 pub stands_before : (vs : List (List ℕ)) (w : List ℕ) (k : ℕ) → list_any (is w) (take k vs) ≡ is_before k (place_of vs w)
@@ -46,20 +42,11 @@ placed_before_any vs w k p e = sym (stands_before vs w k ∙ ap (is_before k) e)
 pub stands_behind : (us vs : List (List ℕ)) (w : List ℕ) (k : ℕ) → (list_any (is w) us || list_any (is w) (take k vs)) ≡ list_any (is w) (take (length us + k) (us ++ vs))
 stands_behind us vs w k = sym (ap (list_any (is w)) (take-append-add us vs k) ∙ list_any-append (is w) us (take k vs))
 
-no_more : (o : Option ℕ) → o ≡ option_map (λ p. 0 + p) o
-no_more None = refl
-no_more (Some p) = ap Some (omega arith)
-
 one_more : (here : Bool) (n : ℕ) (o p : Option ℕ) → cond here (Some 0) (option_map suc (option_or o (option_map (λ k. n + k) p))) ≡ option_or (cond here (Some 0) (option_map suc o)) (option_map (λ k. suc n + k) p)
 one_more true n o p = refl
 one_more false n (Some q) p = refl
 one_more false n None None = refl
 one_more false n None (Some k) = ap Some (omega arith)
-
--- the place of a name among names and those after them
-pub place_behind : (us vs : List (List ℕ)) (w : List ℕ) → place_of (us ++ vs) w ≡ option_or (place_of us w) (option_map (λ k. length us + k) (place_of vs w))
-place_behind [] vs w = no_more (place_of vs w)
-place_behind (u ∷ us) vs w = ap (λ p. cond (is w u) (Some 0) (option_map suc p)) (place_behind us vs w) ∙ one_more (is w u) (length us) (place_of us w) (place_of vs w)
 
 pub among_first : (us vs : List (List ℕ)) (w : List ℕ) (p : ℕ) → place_of us w ≡ Some p → Some p ≡ place_of (us ++ vs) w
 among_first us vs w p e = sym (place_behind us vs w ∙ ap (λ o. option_or o (option_map (λ k. length us + k) (place_of vs w))) e)

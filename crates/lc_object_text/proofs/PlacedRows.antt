@@ -20,7 +20,7 @@ pub placed_more : {X : Type 0} (read : ℕ → ℕ → Tree → Reading X) (i j 
 placed_more read i j l behind part at next later =
     placed_at read i j (number_of l) (number_of behind) (place_of part) (tree_of part) (rest_of behind) (rest_of l) next.rest at next.number later
 
-fits_where : (b : Bool) (ts : Trees) → is_fitting (cond b (fits ts) misshapen) ≡ b
+pub fits_where : (b : Bool) (ts : Trees) → is_fitting (cond b (fits ts) misshapen) ≡ b
 fits_where true ts = refl
 fits_where false ts = refl
 

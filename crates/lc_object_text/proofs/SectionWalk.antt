@@ -13,6 +13,7 @@ use Rattle.lc_object_text.specs.Seen.{items_of, size, IsNextForm}
 use Rattle.lc_object_text.specs.ObjectNames.{first_text, items_within, within_first, names_of_columns, columns_of_arrays, spans_from, span_of, Span, Body, later}
 use Rattle.lc_object_text.specs.ObjectNames.{Call, Declared, body_of, bodies_from, labels_of_bodies, points_in, parts_in_first}
 use Rattle.std.specs.Prelude.{codes, zero, suc}
+use Rattle.lc_object_text.proofs.ObjectHolds.{names_counted}
 
 -- how many items an item has, with itself
 abbrev size_of : Item → ℕ
@@ -69,11 +70,6 @@ columns_more c c' item names more name h is e =
     ap (λ xs. names ++ xs) (columns_from c c' item (rest_of c) h ∙ ap (λ w. w ∷ names_of_columns (rest_of c')) (sym is))
     ∙ sym (append_assoc names (name ∷ []) (names_of_columns (rest_of c'))) ∙ ap (λ xs. xs ++ names_of_columns (rest_of c')) (sym e)
 
--- a list has as many names of columns as items
-pub columns_counted : (ts : Trees) → length (names_of_columns ts) ≡ tree_count ts
-columns_counted none = refl
-columns_counted (t ▸ ts) = omega (arith, columns_counted ts)
-
 -- one more array, and those after it
 pub array_columns : (word : List ℕ) (old new parts : Cursor) (xs more : List (List ℕ)) → IsNextForm false word old (Some parts) new → more ≡ xs ++ names_of_columns (later (rest_of parts)) →
     more ++ columns_of_arrays (forms_in word (rest_of new)) ≡ xs ++ columns_of_arrays (forms_in word (rest_of old))
@@ -96,7 +92,7 @@ array_spans word old new parts k l xs more h e next =
 
 -- how many names there are then
 pub columns_then : (xs more : List (List ℕ)) (ts : Trees) → more ≡ xs ++ names_of_columns ts → length more ≡ length xs + tree_count ts
-columns_then xs more ts e = omega (arith, ap length e, length-append xs (names_of_columns ts), columns_counted ts)
+columns_then xs more ts e = omega (arith, ap length e, length-append xs (names_of_columns ts), names_counted ts)
 
 abbrev the_body : List ℕ → ℕ → List (List ℕ) → Option ℕ → List (List ℕ) → List (List ℕ) → Body
 the_body operation first arguments replies locals labels = record { operation = operation; first = first; call = record { arguments = arguments; replies = replies }; locals = locals; labels = labels }

@@ -3,7 +3,7 @@ use Rattle.std.proofs.Common.{◌≡◌, ℕ, ◌+◌, ◌≤◌, ◌<◌, Bool,
 use Rattle.std.proofs.lemmas.Bool.Decides.{nat_tests}
 use Rattle.std.specs.Prelude.{ℤ, pos, negsuc, codes, slice_get, nat_lt, nat_le}
 use Rattle.std.specs.List.{list_any}
-use Rattle.lc_base.specs.Limits.{operation_limit}
+use Rattle.lc_base.specs.Limits.{operation_limit, argument_limit, reply_limit}
 use Rattle.lc_sexp.specs.Parts.{Fit, fits, misshapen, beyond, form_fit, integer_fit}
 use Rattle.lc_sexp.specs.TreeCode.{tree_count}
 use Rattle.lc_sexp.specs.Trees.{Tree, Trees, atom, list, none, ◌▸◌, item_count}
@@ -21,31 +21,31 @@ use Rattle.lc_object_text.specs.Objects.{Signature, signature_of, has_minus, few
 use Rattle.lc_object_text.specs.Sections.{parts_in}
 
 -- how many numbers are returned
-small : (k : ℕ) → nat_lt 3 k ≡ false → k ≤ 3
+small : (k : ℕ) → nat_lt reply_limit k ≡ false → k ≤ reply_limit
 small k e = grind (arith, nat_tests)
 
-few_hold : (n : ℕ) (f : Fit ℤ) → Holds (λ k. (count_of_fit f ≡ Some k) × (k ≤ 3)) (few_replies n f)
+few_hold : (n : ℕ) (f : Fit ℤ) → Holds (λ k. (count_of_fit f ≡ Some k) × (k ≤ reply_limit)) (few_replies n f)
 few_hold n misshapen = tt
 few_hold n beyond = tt
 few_hold n (fits (negsuc k)) = tt
-few_hold n (fits (pos k)) = by_test (nat_lt 3 k) refl where
-  by_test : (b : Bool) → nat_lt 3 k ≡ b → Holds (λ j. (Some k ≡ Some j) × (j ≤ 3)) (cond b (wrong Bound n) (fine k))
+few_hold n (fits (pos k)) = by_test (nat_lt reply_limit k) refl where
+  by_test : (b : Bool) → nat_lt reply_limit k ≡ b → Holds (λ j. (Some k ≡ Some j) × (j ≤ reply_limit)) (cond b (wrong Bound n) (fine k))
   by_test true e = tt
   by_test false e = (refl, small k e)
 
-replies_hold : (n : ℕ) (t : Tree) → Holds (λ k. (count_of_fit (integer_fit t) ≡ Some k) × (k ≤ 3)) (replies_reading n t)
+replies_hold : (n : ℕ) (t : Tree) → Holds (λ k. (count_of_fit (integer_fit t) ≡ Some k) × (k ≤ reply_limit)) (replies_reading n t)
 replies_hold n (list ts) = tt
 replies_hold n (atom w) =
-    if_holds (λ k. (count_of_fit (integer_fit (atom w)) ≡ Some k) × (k ≤ 3)) (has_minus w) (wrong Shape n) (few_replies n (integer_fit (atom w))) tt (few_hold n (integer_fit (atom w)))
+    if_holds (λ k. (count_of_fit (integer_fit (atom w)) ≡ Some k) × (k ≤ reply_limit)) (has_minus w) (wrong Shape n) (few_replies n (integer_fit (atom w))) tt (few_hold n (integer_fit (atom w)))
 
 -- the i-th of operations
 pub record IsSignature (d : Declared) (i : ℕ) (us : Trees) (s : Signature) : Type 0 where
   pub below : i < operation_limit
   pub new : list_any (is (first_text us)) (take i d.operations) ≡ false
   pub arguments : length s.arguments ≡ length (call_of us).arguments
-  pub few : length s.arguments ≤ 3
+  pub few : length s.arguments ≤ argument_limit
   pub replies : (call_of us).replies ≡ Some s.replies
-  pub at_most : s.replies ≤ 3
+  pub at_most : s.replies ≤ reply_limit
 
 abbrev IsNew : Declared → ℕ → Tree → List ℕ → Type 0
 IsNew d i t w = (i < operation_limit) × (list_any (is (text_in t)) (take i d.operations) ≡ false)
@@ -64,7 +64,7 @@ new_holds d i n m t =
       only false (flawed f) h = tt
 
 abbrev IsCall : Tree → Tree → List (List ℕ) × ℕ → Type 0
-IsCall u v call = ((length call.0 ≡ length (names_among (items_within u))) × (length call.0 ≤ 3)) × ((count_of_fit (integer_fit v) ≡ Some call.1) × (call.1 ≤ 3))
+IsCall u v call = ((length call.0 ≡ length (names_among (items_within u))) × (length call.0 ≤ argument_limit)) × ((count_of_fit (integer_fit v) ≡ Some call.1) × (call.1 ≤ 3))
 
 signature_parts_hold : (d : Declared) (i n m : ℕ) (us : Trees) → Holds (IsSignature d i us) (signature_parts d i n m us)
 signature_parts_hold d i n m none = tt
@@ -75,7 +75,7 @@ signature_parts_hold d i n m (t ▸ u ▸ v ▸ ts) =
     let p = m + item_count t in
     let q = p + item_count u in
     both_holds (IsNew d i t) (IsCall u v) (IsSignature d i (t ▸ u ▸ v ▸ ts)) signature_of (operation_name_reading d i n m t) (call_reading arguments p u q v) (new_holds d i n m t)
-    (both_holds (λ ws. (length ws ≡ length (names_among (items_within u))) × (length ws ≤ 3)) (λ k. (count_of_fit (integer_fit v) ≡ Some k) × (k ≤ 3)) (IsCall u v) pair (names_reading 3 arguments 0 p u) (replies_reading q v)
+    (both_holds (λ ws. (length ws ≡ length (names_among (items_within u))) × (length ws ≤ argument_limit)) (λ k. (count_of_fit (integer_fit v) ≡ Some k) × (k ≤ reply_limit)) (IsCall u v) pair (names_reading 3 arguments 0 p u) (replies_reading q v)
     (names_hold 3 arguments 0 p u) (replies_hold q v) (λ ws k h g. (h, g)))
     (λ w call h g. record { below = h.0; new = h.1; arguments = g.0.0; few = g.0.1; replies = g.1.0; at_most = g.1.1 })
 

@@ -13,3 +13,4 @@ mod Starts
 mod Drafting
 mod Listing
 mod Stepping
+mod NativeChoices

@@ -1,15 +1,14 @@
 //! The calls of a history, as an object has them.
 ghost use Rattle.std.specs.Prelude.{◌≡◌, ◌<◌, ℕ, ℤ, List, Some, IsTrue, IfOk, IfSome, MatchOption, length, slice_get};
-ghost use Rattle.lc_hist.specs.History.{Event, Replied};
-ghost use Rattle.lc_hist.specs.View.{events_of};
+ghost use Rattle.lc_history.specs.History.{Event, Replied};
+ghost use Rattle.lc_history.specs.View.{events_of};
 ghost use Rattle.lc_order.specs.Expanded.{IsNoCall, IsAsked};
 ghost use Rattle.lc_order.specs.Rosters.{IsSpan};
 
-use crate::nodes::same_numbers;
 use crate::roster::Span;
 use crate::searchable::Searchable;
 use lc_base::OutOfMemory;
-use lc_hist::Event;
+use lc_history::Event;
 use std::alloc::Global;
 
 /// A call of a history: whether it returned, and with which reply.
@@ -18,18 +17,6 @@ pub(crate) struct Asked<C> {
     pub(crate) call: C,
     pub(crate) returned: bool,
     pub(crate) reply: Vec<i64>,
-}
-
-/// Whether these are the numbers with which a call returned, if it did.
-pub(crate) fn gives_reply<C>(asked: &Asked<C>, numbers: &[i64]) -> bool
-    ensures told { IsTrue result → IsTrue asked.now.returned → numbers.now ≡ asked.now.reply.items }
-    ensures other { (IsTrue asked.now.returned → numbers.now ≡ asked.now.reply.items) → IsTrue result }
-{
-    if asked.returned {
-        same_numbers(numbers, &asked.reply)
-    } else {
-        true
-    }
 }
 
 // What was returned at a place.

@@ -1,12 +1,12 @@
 //! Laws of the definitions: functions without effect, whose contracts are the laws.
 ghost use Rattle.std.specs.Prelude.{ℕ, ◌<◌, ◌∷◌, List, take};
 ghost use Rattle.lc_seq.specs.Sequential.{Step};
-ghost use Rattle.lc_hist.specs.History.{Event, Entry, Linearizes, is_return, count};
-ghost use Rattle.lc_hist.specs.WellFormed.{IsWellFormed};
+ghost use Rattle.lc_history.specs.History.{Event, Entry, Linearizes, is_return, count};
+ghost use Rattle.lc_history.specs.WellFormed.{IsWellFormed};
 ghost use Rattle.lc_order.specs.Completion.{Completes, IsNext};
 ghost use Rattle.lc_order.specs.Reading.{OnlyReads};
 
-use lc_hist::laws::tests_are_exact;
+use lc_history::laws::tests_are_exact;
 use lc_seq::SeqObject;
 
 /// What linearizes a history completes it from its start: each of its entries, in turn, is a call that no call without an

@@ -3,7 +3,7 @@ use crate::finding::{Found, find_next};
 use crate::roster::roster_of;
 use crate::searchable::Searchable;
 use lc_base::OutOfMemory;
-use lc_hist::{Done, Event};
+use lc_history::{Done, Event};
 use std::alloc::Global;
 
 /// Replies of a call, and whether it was found that there are no others.

@@ -1,10 +1,10 @@
 //! The clients that occur in a history, each with the places of its calls and of its returns.
 ghost use Rattle.std.specs.Prelude.{◌≡◌, ◌<◌, ◌++◌, ℕ, ◌==◌, [], ◌∷◌, cond, Some, None, OnOk, IfOk, length, slice_get};
-ghost use Rattle.lc_hist.specs.View.{events_of};
+ghost use Rattle.lc_history.specs.View.{events_of};
 ghost use Rattle.lc_order.specs.Rosters.{index_at, IsRosterOf};
 
 use lc_base::OutOfMemory;
-use lc_hist::Event;
+use lc_history::Event;
 use std::alloc::Global;
 
 /// Where a call is in a history.

@@ -1,12 +1,12 @@
 //! Whether an order linearizes a history.
 ghost use Rattle.std.specs.Prelude.{◌≤◌, IfOk, length, take};
-ghost use Rattle.lc_hist.specs.Histories.{events_in};
-ghost use Rattle.lc_hist.specs.History.{Linearizes};
+ghost use Rattle.lc_history.specs.Histories.{events_in};
+ghost use Rattle.lc_history.specs.History.{Linearizes};
 ghost use Rattle.lc_order.specs.Decided.{IsDecided};
 ghost use Rattle.lc_order.specs.Refuted.{IsRefuted};
 
 use lc_base::OutOfMemory;
-use lc_hist::{Done, History};
+use lc_history::{Done, History};
 use lc_order::{Decision, Refutation, Searchable, decide, refute};
 use std::alloc::Global;
 

@@ -9,7 +9,7 @@ ghost use Rattle.lc_seq.specs.TextView.{specification_of};
 ghost use Rattle.lc_order.specs.Drafts.{IsDraft};
 ghost use Rattle.lc_order.specs.Listed.{IsListed};
 ghost use Rattle.lc_order.specs.Reading.{OnlyReads};
-ghost use Rattle.lc_order.specs.Steps.{IsStep, TakesNone, replied_by};
+ghost use Rattle.lc_order.specs.Steps.{IsAfter, IsStep, replied_by};
 
 use lc_base::OutOfMemory;
 use lc_order::{Listed, Searchable, Stepped, TextDraft};
@@ -50,8 +50,9 @@ pub fn stepping(
     spec.step(alloc, draft, client, call, choice)
 }
 
-/// A call that is said to take no step under a choice, with its reply, takes none.
-pub fn excluding(
+/// A step that is taken on a copy leads to a draft of the state to which the specification's step leads, with the reply if the call returned; or
+/// there is no such step.
+pub fn stepping_a_copy(
     alloc: Global,
     spec: &TextSpec,
     draft: &TextDraft,
@@ -60,11 +61,11 @@ pub fn excluding(
     choice: &Pick,
     returned: bool,
     reply: &[i64],
-) -> Result<bool, SeqFault>
+) -> Result<Option<TextDraft>, SeqFault>
     requires { IsDraft (specification_of spec.now).columns draft.now }
-    ensures { IfOk result (λ none. IsTrue none → TakesNone (text_step (specification_of spec.now).operations) (state_of draft.now.cells) client (text_call_of call.now) (choice_of choice.now) returned reply.now) }
+    ensures { IsAfter (text_step (specification_of spec.now).operations) (λ draft. state_of draft.cells) (IsDraft (specification_of spec.now).columns) (state_of draft.now.cells) client (text_call_of call.now) (choice_of choice.now) returned reply.now result }
 {
-    spec.takes_none(alloc, draft, client, call, choice, returned, reply)
+    spec.after(alloc, draft, client, call, choice, returned, reply)
 }
 
 /// Drafts that are said to be the same stand for the same state.

@@ -1,12 +1,12 @@
 -- What the tests of scope tell.
-use Rattle.std.proofs.Common.{◌≡◌, ℕ, ◌+◌, ◌<◌, Bool, true, ◌&&◌, List, [], ◌∷◌, Some, None, Option, length, arith}
-use Rattle.std.proofs.lemmas.Bool.Decides.{nat_tests}
+use Rattle.std.proofs.Common.{◌≡◌, ℕ, ◌+◌, Bool, true, ◌&&◌, List, [], ◌∷◌, Some, None, Option, length}
 use Rattle.std.specs.List.{list_all}
 use Rattle.std.specs.Prelude.{nat_lt}
+use Rattle.lc_lemmas.proofs.Booleans.{left_true, right_true}
+use Rattle.lc_lemmas.proofs.Numbers.{below_from_test}
 use Rattle.lc_term.specs.Lists.{Every}
 use Rattle.lc_term.specs.Syntax.{Formula}
 use Rattle.lc_term.specs.Updates.{Update}
-use Rattle.lc_term.proofs.Tests.{left_true, right_true}
 use Rattle.lc_seq.specs.Sequential.{given_in}
 use Rattle.lc_seq.specs.Specification.{update_is_resolved}
 use Rattle.lc_rider.specs.Rider.{Marking, Own, Other, Note, Deed, Assign, Marks, Rider}
@@ -19,9 +19,6 @@ pub list_all_every : {A : Type 0} (P : A → Type 0) (p : A → Bool) → ((x : 
 list_all_every P p f [] h = tt
 list_all_every P p f (x ∷ xs) h = (f x (left_true (p x) (list_all p xs) h), list_all_every P p f xs (right_true (p x) (list_all p xs) h))
 
-below : (k n : ℕ) → nat_lt k n ≡ true → k < n
-below k n e = grind (arith, nat_tests)
-
 module _ (columns variables : ℕ) where
   pub update : (u : Update) → update_is_resolved columns variables u ≡ true → IsUpdateScoped columns variables u
   update u h =
@@ -29,7 +26,7 @@ module _ (columns variables : ℕ) where
       let b = term_is_scoped columns variables u.index in
       let c = term_is_scoped columns variables u.value in
       let terms = right_true a (b && c) h in
-      record { column = below u.column columns (left_true a (b && c) h); index = left_true b c terms; value = right_true b c terms }
+      record { column = below_from_test u.column columns (left_true a (b && c) h); index = left_true b c terms; value = right_true b c terms }
 
   marking : (k : Marking) → marking_is_scoped columns variables k ≡ true → IsMarkingScoped columns variables k
   marking Own h = tt

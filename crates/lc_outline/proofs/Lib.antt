@@ -2,7 +2,8 @@ pub mod Chosen
 pub mod Matched
 pub mod Resolving
 pub mod Crossing
-mod InScope
+pub mod InScope
 pub mod Scoped
 pub mod PathTotal
 mod Limited
+pub mod Names

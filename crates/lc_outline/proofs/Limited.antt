@@ -1,22 +1,18 @@
 -- What the test of a development's limits tells.
-use Rattle.std.proofs.Common.{◌≡◌, ℕ, zero, suc, ◌≤◌, Bool, true, false, ◌&&◌, cond, Option, Some, List, [], ◌∷◌, length, refl, sym, subst, arith}
-use Rattle.std.proofs.lemmas.Bool.Decides.{nat_tests}
+use Rattle.std.proofs.Common.{◌≡◌, ℕ, zero, suc, ◌≤◌, Bool, true, false, ◌&&◌, cond, Some, List, [], ◌∷◌, length, refl, sym, subst}
 use Rattle.std.proofs.lemmas.Option.{same_Some}
 use Rattle.std.specs.List.{list_all}
 use Rattle.std.specs.Prelude.{nat_le, slice_get}
+use Rattle.std.proofs.lemmas.Bool.{leb-true}
+use Rattle.lc_lemmas.proofs.Booleans.{left_true, right_true}
 use Rattle.lc_base.specs.Limits.{action_limit, column_limit, condition_limit, path_limit, rider_limit}
-use Rattle.lc_term.proofs.Tests.{left_true, right_true}
 use Rattle.lc_object.specs.Syntax.{Point}
 use Rattle.lc_object.specs.declared.instr.EdgeKind.{EdgeKind}
-use Rattle.lc_rider.specs.Rider.{Rider}
 use Rattle.lc_seq.specs.Specification.{Operation}
 use Rattle.lc_outline.specs.Development.{Development, On, Outline, first_system, same_kind, on_for, ons_in, riders_in, riders_at}
 use Rattle.lc_outline.specs.Limits.{path_total, IsLimited, riders_are_limited, on_is_limited, outlines_are_limited, is_limited}
 use Rattle.lc_outline.specs.Sizes.{sizes_of, count}
 use Rattle.lc_outline.proofs.PathTotal.{paths_total}
-
-few : (k limit : ℕ) → nat_le k limit ≡ true → k ≤ limit
-few k limit e = grind (arith, nat_tests)
 
 -- the riders at an edge, if each `on` of its point is within the limits
 riders_few : (operations : List Operation) (o : ℕ) (xs : List On) (kind : EdgeKind) → list_all (on_is_limited operations o) xs ≡ true → riders_are_limited operations o (riders_in (on_for xs kind)) ≡ true
@@ -52,12 +48,12 @@ passed_is_limited D h =
     let riders : (p : ℕ) (point : Point) (kind : EdgeKind) → slice_get D.object.points p ≡ Some point → riders_are_limited operations point.operation (riders_at D p kind) ≡ true =
     λ p point kind e. riders_few operations point.operation (ons_in (slice_get D.outlines p)) kind (ons_few operations D.object.points D.outlines p point outlines e) in
     record {
-      columns = few (first_system D) column_limit (left_true a b (left_true (a && b) c three));
-      actions = few (length D.actions) action_limit (right_true a b (left_true (a && b) c three));
+      columns = leb-true (first_system D) column_limit (left_true a b (left_true (a && b) c three));
+      actions = leb-true (length D.actions) action_limit (right_true a b (left_true (a && b) c three));
       riders = λ p point kind e.
-          few (length (riders_at D p kind)) rider_limit (left_true (nat_le (length (riders_at D p kind)) rider_limit) (nat_le (path_total operations point.operation (riders_at D p kind)) path_limit) (riders p point kind e));
+          leb-true (length (riders_at D p kind)) rider_limit (left_true (nat_le (length (riders_at D p kind)) rider_limit) (nat_le (path_total operations point.operation (riders_at D p kind)) path_limit) (riders p point kind e));
       paths = λ p point kind e first n variables start.
           subst (λ k. k ≤ path_limit) (sym (paths_total operations first n point.operation variables (riders_at D p kind) start))
-          (few (path_total operations point.operation (riders_at D p kind)) path_limit (right_true (nat_le (length (riders_at D p kind)) rider_limit) (nat_le (path_total operations point.operation (riders_at D p kind)) path_limit) (riders p point kind e)));
-      conditions = few (count (sizes_of D)) condition_limit (right_true (a && b && c) d h);
+          (leb-true (path_total operations point.operation (riders_at D p kind)) path_limit (right_true (nat_le (length (riders_at D p kind)) rider_limit) (nat_le (path_total operations point.operation (riders_at D p kind)) path_limit) (riders p point kind e)));
+      conditions = leb-true (count (sizes_of D)) condition_limit (right_true (a && b && c) d h);
     }

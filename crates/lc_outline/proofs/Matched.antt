@@ -4,6 +4,10 @@ use Rattle.std.specs.Prelude.{slice_get, nat_le, option_map}
 use Rattle.std.specs.List.{list_all}
 use Rattle.std.proofs.lemmas.Bool.Decides.{nat_tests}
 use Rattle.std.proofs.lemmas.Option.{same_Some}
+use Rattle.lc_base.specs.Limits.{argument_limit, local_limit, reply_limit}
+use Rattle.lc_lemmas.proofs.Booleans.{left_true, right_true}
+use Rattle.lc_lemmas.proofs.Lists.{at_all}
+use Rattle.lc_lemmas.proofs.Numbers.{equal_to_itself}
 use Rattle.lc_term.specs.Updates.{Write, stored_all}
 use Rattle.lc_term.specs.Meaning.{State}
 use Rattle.lc_seq.specs.Sequential.{Call, Choice, Chosen, given_in}
@@ -13,7 +17,6 @@ use Rattle.lc_seq.proofs.Choosing.{resolved_behind, chosen-resolved, chosen-all}
 use Rattle.lc_seq.specs.TextStep.{run, call_env, text_step, outcome}
 use Rattle.lc_object.specs.Syntax as O
 use Rattle.lc_object.specs.WellFormed.{is_first, are_operations, has_limits}
-use Rattle.lc_term.proofs.Tests.{left_true, right_true, at_all}
 use Rattle.lc_object.proofs.ObjectParts.{operations_pass}
 use Rattle.lc_seq.specs.Branches.{op_branches, branches_in, arity, arity_in, op_replies, replies_in}
 use Rattle.lc_rider.specs.Rider.{argument}
@@ -21,7 +24,7 @@ use Rattle.lc_outline.specs.Development.{Development}
 use Rattle.lc_outline.specs.Resolved.{AreMatched, IsResolved}
 use Rattle.lc_rider.proofs.Riding.{ground_from}
 use Rattle.lc_rider.specs.PathLaws.{AreGround}
-use Rattle.lc_term.proofs.Stores.{if_true, same_self}
+use Rattle.lc_term.proofs.Stores.{if_true}
 
 -- ---- branches
 
@@ -71,22 +74,22 @@ few_at object n os [] k h m = (omega arith, omega arith)
 few_at object n [] (q ∷ qs) k h m = absurd m
 few_at object n (x ∷ os) (q ∷ qs) zero h m =
     let limits = left_true (has_limits x) (is_first object.points n x.entry) (left_true (has_limits x && is_first object.points n x.entry) (are_operations object (suc n) os) h) in
-    let two = left_true (nat_le (length x.arguments) 3 && nat_le x.replies 3) (nat_le (length x.locals) 16) limits in
-    let a = left_true (nat_le (length x.arguments) 3) (nat_le x.replies 3) two in
-    let b = right_true (nat_le (length x.arguments) 3) (nat_le x.replies 3) two in
-    let a' : length x.arguments ≤ 3 = grind (arith, nat_tests) in
-    let b' : x.replies ≤ 3 = grind (arith, nat_tests) in
-    (subst (λ j. j ≤ 3) m.0 a', subst (λ j. j ≤ 3) m.1 b')
+    let two = left_true (nat_le (length x.arguments) argument_limit && nat_le x.replies reply_limit) (nat_le (length x.locals) local_limit) limits in
+    let a = left_true (nat_le (length x.arguments) argument_limit) (nat_le x.replies reply_limit) two in
+    let b = right_true (nat_le (length x.arguments) argument_limit) (nat_le x.replies reply_limit) two in
+    let a' : length x.arguments ≤ argument_limit = grind (arith, nat_tests) in
+    let b' : x.replies ≤ reply_limit = grind (arith, nat_tests) in
+    (subst (λ j. j ≤ argument_limit) m.0 a', subst (λ j. j ≤ reply_limit) m.1 b')
 few_at object n (x ∷ os) (q ∷ qs) (suc k) h m = few_at object (suc n) os qs k (right_true (has_limits x && is_first object.points n x.entry) (are_operations object (suc n) os) h) m.3
 
-pub arity_and_replies_few : (D : Development) → IsResolved D → (o : ℕ) → (arity D.specification.operations o ≤ 3) × (op_replies D.specification.operations o ≤ 3)
+pub arity_and_replies_few : (D : Development) → IsResolved D → (o : ℕ) → (arity D.specification.operations o ≤ argument_limit) × (op_replies D.specification.operations o ≤ reply_limit)
 arity_and_replies_few D R o = few_at D.object 0 D.object.operations D.specification.operations o (operations_pass D.object R.object) R.operations
 
 -- ---- the step of a call
 
 branches_with : (found : Option Operation) (n : ℕ) → n ≡ arity_in found → Q.branches_in found n ≡ branches_in found
 branches_with None n e = refl
-branches_with (Some o) n e = subst (λ k. (if length o.arguments == k then o.branches else []) ≡ o.branches) (sym e) (if_true (length o.arguments == length o.arguments) o.branches [] (same_self (length o.arguments)))
+branches_with (Some o) n e = subst (λ k. (if length o.arguments == k then o.branches else []) ≡ o.branches) (sym e) (if_true (length o.arguments == length o.arguments) o.branches [] (equal_to_itself (length o.arguments)))
 
 pub text_step_run : (operations : List Operation) (s : State) (c : ℕ) (call : Call) (choice : Choice) (o : ℕ) (numbers : List ℤ) (ws : List Write) (vs : List ℤ) → call.op ≡ o → call.numbers ≡ numbers →
     length call.numbers ≡ arity operations call.op → run s (call_env c (numbers ++ given_in choice)) (chosen choice (op_branches operations o)) ≡ Some (ws, vs) → text_step operations s c call choice ≡ Some (stored_all s ws, vs)

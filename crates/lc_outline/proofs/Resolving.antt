@@ -4,11 +4,13 @@ use Rattle.std.specs.Prelude.{slice_get, nat_le, nat_lt}
 use Rattle.std.specs.List.{list_all}
 use Rattle.std.proofs.lemmas.Bool.Decides.{nat_tests}
 use Rattle.std.proofs.lemmas.Option.{same_Some}
+use Rattle.std.proofs.lemmas.Bool.{eqb-true, leb-true}
+use Rattle.lc_base.specs.Limits.{parameter_limit}
+use Rattle.lc_lemmas.proofs.Booleans.{left_true, right_true}
 use Rattle.lc_term.specs.Lists.{Every, IsIn}
 use Rattle.lc_term.specs.Updates.{Update}
 use Rattle.lc_term.specs.SystemColumns.{column_count}
 use Rattle.lc_term.specs.Syntax.{Formula}
-use Rattle.lc_term.proofs.Tests.{left_true, right_true}
 use Rattle.lc_seq.specs.Specification as Q
 use Rattle.lc_seq.specs.Specification.{operation_is_resolved}
 use Rattle.lc_object.specs.Syntax as O
@@ -27,7 +29,7 @@ use Rattle.lc_outline.proofs.Scoped.{scoped_below, known_below}
 
 -- ---- lists
 
-every_weaker : {A : Type 0} (P Q : A → Type 0) → ((x : A) → P x → Q x) → (xs : List A) → Every P xs → Every Q xs
+pub every_weaker : {A : Type 0} (P Q : A → Type 0) → ((x : A) → P x → Q x) → (xs : List A) → Every P xs → Every Q xs
 every_weaker P Q f [] h = tt
 every_weaker P Q f (x ∷ xs) h = (f x h.0, every_weaker P Q f xs h.1)
 
@@ -44,12 +46,6 @@ nonempty : {A : Type 0} (xs : List A) → has_some xs ≡ true → IsNonempty xs
 nonempty [] h = absurd cc
 nonempty (x ∷ xs) h = tt
 
-same : (m n : ℕ) → (m == n) ≡ true → m ≡ n
-same m n h = grind (arith, nat_tests)
-
-at_most : (m n : ℕ) → nat_le m n ≡ true → m ≤ n
-at_most m n h = grind (arith, nat_tests)
-
 -- ---- operations
 
 matched : (os : List O.Operation) (qs : List Q.Operation) → are_matched os qs ≡ true → AreMatched os qs
@@ -59,8 +55,8 @@ matched (o ∷ os) [] h = absurd cc
 matched (o ∷ os) (q ∷ qs) h =
     let one = left_true (is_matched o q) (are_matched os qs) h in
     let rest = right_true (length o.arguments == length q.arguments) (o.replies == q.replies && has_some q.branches) one in
-    let arguments = same (length o.arguments) (length q.arguments) (left_true (length o.arguments == length q.arguments) (o.replies == q.replies && has_some q.branches) one) in
-    let replies = same o.replies q.replies (left_true (o.replies == q.replies) (has_some q.branches) rest) in
+    let arguments = eqb-true (length o.arguments) (length q.arguments) (left_true (length o.arguments == length q.arguments) (o.replies == q.replies && has_some q.branches) one) in
+    let replies = eqb-true o.replies q.replies (left_true (o.replies == q.replies) (has_some q.branches) rest) in
     let branches = nonempty q.branches (right_true (o.replies == q.replies) (has_some q.branches) rest) in
     (arguments, replies, branches, matched os qs (right_true (is_matched o q) (are_matched os qs) h))
 
@@ -91,7 +87,7 @@ module _ (D : Development) where
 
   taken : (a : Option Action) (n : ℕ) → takes a n ≡ true → (x : Action) × (a ≡ Some x) × (n ≡ length x.parameters)
   taken None n h = absurd cc
-  taken (Some a) n h = (a, refl, same n (length a.parameters) h)
+  taken (Some a) n h = (a, refl, eqb-true n (length a.parameters) h)
 
   on : (o : ℕ) (e : Edge) (x : Option On) → on_is_resolved D o e x ≡ true → IsOnResolved D o e x
   on o e None h = empty e.updates h
@@ -141,13 +137,13 @@ module _ (D : Development) where
   IsStored u = u.column < column_count (first_system D)
 
   in_scope : (a : Action) → action_is_resolved D a ≡ true → IsActionScoped (column_total D) a
-  in_scope a h = I.action_in_scope (column_total D) a (right_true (nat_le (length a.parameters) 3) (action_is_scoped (column_total D) a) h)
+  in_scope a h = I.action_in_scope (column_total D) a (right_true (nat_le (length a.parameters) parameter_limit) (action_is_scoped (column_total D) a) h)
 
   action : (a : Action) → action_is_resolved D a ≡ true → Every IsStored a.updates
   action a h = let n = 2 + length a.parameters in every_weaker (IsUpdateScoped (column_total D) n) IsStored (λ u e. e.column) a.updates (in_scope a h).updates
 
-  three_at_most : (a : Action) → action_is_resolved D a ≡ true → length a.parameters ≤ 3
-  three_at_most a h = at_most (length a.parameters) 3 (left_true (nat_le (length a.parameters) 3) (action_is_scoped (column_total D) a) h)
+  three_at_most : (a : Action) → action_is_resolved D a ≡ true → length a.parameters ≤ parameter_limit
+  three_at_most a h = leb-true (length a.parameters) parameter_limit (left_true (nat_le (length a.parameters) parameter_limit) (action_is_scoped (column_total D) a) h)
 
   -- ---- together
 
@@ -214,12 +210,12 @@ passed_is_resolved D h =
     record {
       object = own.object;
       specification = own.specification;
-      abstracts = same _ _ own.abstracts;
+      abstracts = eqb-true _ _ own.abstracts;
       operations = matched D.object.operations D.specification.operations own.operations;
       invariant = below D 1 (invariant_of D) beside.invariant;
       idle = below D 2 D.idle beside.idle;
       actions = list_all_every (λ (a : Action). Every (IsStored D) a.updates) (action_is_resolved D) (action D) D.actions whole.actions;
-      parameters = list_all_every (λ (a : Action). length a.parameters ≤ 3) (action_is_resolved D) (three_at_most D) D.actions whole.actions;
+      parameters = list_all_every (λ (a : Action). length a.parameters ≤ parameter_limit) (action_is_resolved D) (three_at_most D) D.actions whole.actions;
       asserts = λ p point o here is. asserted D (slice_get D.outlines p) (variable_count o) (outlined_here D beside.outlines p point o here is);
       arguments = λ p point o here is. called D (slice_get D.outlines p) (variable_count o) (outlined_here D beside.outlines p point o here is);
       ons = λ e i. among (λ (x : Edge). IsOnResolved D (operation_at D.object x.point) x (on_at D x.point x.kind)) (edge_is_resolved D) (λ x. on D (operation_at D.object x.point) x (on_at D x.point x.kind)) (edges D.object) whole.edges e i;

@@ -6,3 +6,5 @@ pub mod Resolved
 pub mod Agreement
 pub mod Sizes
 pub mod Limits
+pub mod ColumnNames
+pub mod EdgeWords

@@ -10,7 +10,7 @@ use Rattle.lc_seq.specs.Sequential.{Chosen, InOrder, ByName}
 use Rattle.lc_rider.specs.Rider.{Deed, Assign, Marks, Marking, Own, Other, Note, Rider}
 use Rattle.lc_tie.specs.Tie.{Conjunct}
 use Rattle.lc_outline.specs.Development.{On}
-use Rattle.lc_naming.specs.EdgeWords.{edge_word}
+use Rattle.lc_outline.specs.EdgeWords.{edge_word}
 use Rattle.lc_outline_print.specs.Naming.{with_client, named_by, operation_name, action_name}
 use Rattle.lc_outline_print.specs.Parts.{name_trees, term_trees, update_parts, update_trees}
 

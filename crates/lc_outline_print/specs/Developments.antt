@@ -3,7 +3,7 @@ use Rattle.std.specs.Prelude.{ℕ, codes, List, [], map}
 use Rattle.lc_sexp.specs.Trees.{Tree, Trees, atom, list, none, ◌▸◌, row}
 use Rattle.lc_sexp.specs.Printed.{printed}
 use Rattle.lc_outline.specs.Development.{Development}
-use Rattle.lc_naming.specs.ColumnNames.{column_names}
+use Rattle.lc_outline.specs.ColumnNames.{column_names}
 use Rattle.lc_outline_print.specs.Naming.{with_client, named_by}
 use Rattle.lc_outline_print.specs.Parts.{formula_trees}
 use Rattle.lc_outline_print.specs.Specifications.{declared_tree, specification_tree}

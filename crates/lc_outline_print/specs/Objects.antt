@@ -4,7 +4,7 @@ use Rattle.lc_sexp.specs.Trees.{Tree, Trees, atom, list, none, ◌▸◌, row}
 use Rattle.lc_text.specs.Spelling.{Spelled}
 use Rattle.lc_object.specs.Syntax.{Column, Array, Operation, Point, Object}
 use Rattle.lc_outline.specs.Development.{Outline, Development, asserts_in, ons_in}
-use Rattle.lc_naming.specs.ColumnNames.{column_names}
+use Rattle.lc_outline.specs.ColumnNames.{column_names}
 use Rattle.lc_outline_print.specs.Naming.{with_client, named_by}
 use Rattle.lc_outline_print.specs.Parts.{name_trees, formula_trees, column_tree}
 use Rattle.lc_outline_print.specs.Beside.{on_tree}

@@ -19,9 +19,8 @@ use crate::parts::{
 };
 use lc_action::Action;
 use lc_base::{OpId, OutOfMemory};
-use lc_naming::edge_word;
 use lc_object::Parts;
-use lc_outline::On;
+use lc_outline::{On, edge_word};
 use lc_rider::{Choosing, Rider};
 use lc_term::Term;
 use lc_text::Spelling;

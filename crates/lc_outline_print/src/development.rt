@@ -5,7 +5,7 @@ ghost use Rattle.lc_outline.specs.PartsView.{parts_view};
 ghost use Rattle.lc_reading.specs.Words.{names_in};
 ghost use Rattle.lc_sexp.specs.Printed.{printed_tree, printed_others};
 ghost use Rattle.lc_sexp.specs.Trees.{none, ◌▸◌};
-ghost use Rattle.lc_naming.specs.ColumnNames.{column_names};
+ghost use Rattle.lc_outline.specs.ColumnNames.{column_names};
 ghost use Rattle.lc_outline_print.specs.Developments.{auxiliary_tree, invariant_tree, idle_tree, table_trees, conditions_and_bodies, object_tree, development_printed};
 
 use crate::beside::{write_actions, write_conjuncts};
@@ -14,8 +14,7 @@ use crate::object::{write_arrays, write_bodies};
 use crate::parts::write_formulas;
 use crate::specification::{write_columns, write_specification};
 use lc_base::OutOfMemory;
-use lc_naming::column_names;
-use lc_outline::{Development, Parts};
+use lc_outline::{Development, Parts, column_names};
 use std::alloc::Global;
 
 /// Writes `(aux COL*)` after a space.

@@ -6,7 +6,7 @@ ghost use Rattle.lc_outline.specs.PartsView.{outline_of, parts_view};
 ghost use Rattle.lc_reading.specs.Words.{names_in};
 ghost use Rattle.lc_sexp.specs.Printed.{printed_tree, printed_others};
 ghost use Rattle.lc_sexp.specs.Trees.{none, row};
-ghost use Rattle.lc_naming.specs.ColumnNames.{column_names};
+ghost use Rattle.lc_outline.specs.ColumnNames.{column_names};
 ghost use Rattle.lc_outline_print.specs.Parts.{column_tree};
 ghost use Rattle.lc_outline_print.specs.Objects.{concrete_tree, concrete_trees, array_tree, outline_trees, point_tree, point_trees, body_with, body_tree, body_trees};
 

@@ -1,12 +1,13 @@
 -- A specification that is read says of its operations what its object sees of them.
 use Rattle.std.proofs.Common.{◌≡◌, ℕ, zero, suc, ◌+◌, ◌≤◌, ◌<◌, Bool, true, false, ◌&&◌, ◌==◌, cond, List, [], ◌∷◌, ◌++◌, map, length, Option, Some, None, refl, sym, ap, ◌∙◌, subst, arith}
 use Rattle.std.specs.Prelude.{ℤ, pos, negsuc, codes, nat_lt, slice_get}
+use Rattle.std.proofs.lemmas.Bool.{and_from, eq-eqb}
 use Rattle.lc_base.specs.Limits.{argument_limit, operation_limit, reply_limit}
 use Rattle.lc_sexp.specs.Numerals.{integer_of}
 use Rattle.lc_sexp.specs.Parts.{fits, beyond, form_fit, integer_within}
 use Rattle.lc_sexp.specs.TreeCode.{tree_count}
 use Rattle.lc_sexp.specs.Trees.{Tree, Trees, atom, list, none, ◌▸◌, item_count}
-use Rattle.lc_reading.proofs.Holding.{Holds, holds_unit, mapped_holds, both_holds, three_holds, limited_holds, if_holds, and_true, holds_weaker}
+use Rattle.lc_reading.proofs.Holding.{Holds, holds_unit, mapped_holds, both_holds, three_holds, limited_holds, if_holds, holds_weaker}
 use Rattle.lc_reading.specs.Listed.{declared_by, names_among}
 use Rattle.lc_reading.specs.Naming.{is_full, name_reading}
 use Rattle.lc_reading.specs.Readings.{Reading, fine, wrong}
@@ -27,18 +28,11 @@ use Rattle.lc_spec_text.specs.Operations.{natural, few, count_reading, arguments
 use Rattle.lc_spec_text.specs.Scopes.{Columns, client}
 use Rattle.lc_spec_text.specs.Specifications.{column_reading, columns_reading, columns_in, operations_reading, specification_parts_reading, the_specification, specification_reading}
 use Rattle.lc_rider_text.specs.Counted.{Goes}
-use Rattle.lc_outline_text.proofs.Fitting.{same_number}
 use Rattle.lc_outline_text.proofs.Going.{AreWaysOf, goes_so, ways_said}
 use Rattle.lc_outline_text.specs.Declarations.{branches_in, ways_in}
+use Rattle.lc_spec_text.proofs.Ways.{declared_counted}
 
 -- ---- what the specification says
-
--- there are as many as items
-row_counted : {X : Type 0} (read : List (List ℕ) → ℕ → Tree → Reading X) (declares : Tree → List (List ℕ)) (before : List (List ℕ)) (m : ℕ) (ts : Trees) → Holds (λ xs. length xs ≡ tree_count ts) (declared_reading read declares before m ts)
-row_counted read declares before m none = refl
-row_counted read declares before m (t ▸ ts) =
-    both_holds (λ x. Unit {0}) (λ xs. length xs ≡ tree_count ts) (λ xs. length xs ≡ tree_count (t ▸ ts)) (λ x xs. x ∷ xs) (read before m t) _ (holds_unit (read before m t))
-    (row_counted read declares (before ++ declares t) (m + item_count t) ts) (λ x xs h g. ap suc g)
 
 -- each of a row
 each_declared : {X : Type 0} (P : ℕ → Tree → X → Type 0) (read : List (List ℕ) → ℕ → Tree → Reading X) (declares : Tree → List (List ℕ)) → ((before : List (List ℕ)) (i n : ℕ) (t : Tree) → Holds (P i t) (read before n t))
@@ -114,7 +108,7 @@ pub record IsSpecificationSaid (us : Trees) (q : Specification) : Type 0 where
 columns_said : (n : ℕ) (t : Tree) → Holds (λ cs. length cs ≡ tree_count (parts_in (codes "abstract") t)) (columns_reading n t)
 columns_said n t =
     holds_weaker _ (λ cs. length cs ≡ tree_count (parts_in (codes "abstract") t)) (columns_reading n t) (λ cs h. h.1)
-    (form_holds (λ ts cs. length cs ≡ tree_count ts) (codes "abstract") (λ n. declared_reading column_reading first_name []) n t (λ n m ts. row_counted column_reading first_name [] m ts))
+    (form_holds (λ ts cs. length cs ≡ tree_count ts) (codes "abstract") (λ n. declared_reading column_reading first_name []) n t (λ n m ts. declared_counted column_reading first_name [] m ts))
 
 specification_parts_said : (others : List (List ℕ)) (n m : ℕ) (us : Trees) → Holds (λ p. IsSpecificationSaid us (the_specification p)) (specification_parts_reading others n m us)
 specification_parts_said others n m none = tt
@@ -135,7 +129,7 @@ specification_said others n t =
 
 -- ---- the same operations
 
-same_count : (o : Option ℤ) (j k : ℕ) → count_of_fit (integer_within o) ≡ Some j → j ≤ 3 → natural o ≡ Some k → j ≡ k
+same_count : (o : Option ℤ) (j k : ℕ) → count_of_fit (integer_within o) ≡ Some j → j ≤ reply_limit → natural o ≡ Some k → j ≡ k
 same_count None j k h most g = absurd (cc)
 same_count (Some (negsuc n)) j k h most g = absurd (cc)
 same_count (Some (pos n)) j k h most g = by_test (nat_lt n 9223372036854775808) h where
@@ -143,7 +137,7 @@ same_count (Some (pos n)) j k h most g = by_test (nat_lt n 9223372036854775808) 
   by_test true h = cc
   by_test false h = let large : 9223372036854775808 ≡ j = cc in absurd (omega (arith, large, most))
 
-same_replies : (ts : Trees) (j k : ℕ) → reply_count ts ≡ Some j → j ≤ 3 → SaysNumber ts k → j ≡ k
+same_replies : (ts : Trees) (j k : ℕ) → reply_count ts ≡ Some j → j ≤ reply_limit → SaysNumber ts k → j ≡ k
 same_replies none j k h most g = absurd g
 same_replies (atom w ▸ ts) j k h most g = same_count (integer_of w) j k h most g
 same_replies (list us ▸ ts) j k h most g = absurd (cc)
@@ -172,9 +166,9 @@ operations_are_matched e [] bs (q ∷ qs) room h = absurd h
 operations_are_matched e (s ∷ ss) bs [] room h = absurd h
 operations_are_matched e (s ∷ ss) [] (q ∷ qs) room h = absurd (omega (arith, room))
 operations_are_matched e (s ∷ ss) (b ∷ bs) (q ∷ qs) room h =
-    and_true _ (are_matched (operations_from (e + length b.points) ss bs) qs)
-    (and_true (length s.arguments == length q.arguments) ((s.replies == q.replies) && has_some q.branches) (same_number (length s.arguments) (length q.arguments) h.0.0)
-    (and_true (s.replies == q.replies) (has_some q.branches) (same_number s.replies q.replies h.0.1) h.0.2))
+    and_from _ (are_matched (operations_from (e + length b.points) ss bs) qs)
+    (and_from (length s.arguments == length q.arguments) ((s.replies == q.replies) && has_some q.branches) (eq-eqb (length s.arguments) (length q.arguments) h.0.0)
+    (and_from (s.replies == q.replies) (has_some q.branches) (eq-eqb s.replies q.replies h.0.1) h.0.2))
     (operations_are_matched (e + length b.points) ss bs qs (omega (arith, room)) h.1)
 
 pub has_some_branches : (ss : List Signature) (qs : List Operation) (k : ℕ) → AreSame ss qs → k < length ss → has_some (op_branches qs k) ≡ true

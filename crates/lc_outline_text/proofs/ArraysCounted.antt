@@ -8,10 +8,7 @@ use Rattle.lc_object.specs.WellFormed.{numbers_from}
 use Rattle.lc_object_text.proofs.ArrayHolds.{HaveSpans}
 use Rattle.lc_object_text.specs.ObjectNames.{Declared, Span, row_at}
 use Rattle.lc_outline_text.specs.Sizes.{columns_of_span, span_at, array_columns}
-
-numbers_length : (k n : ℕ) → length (numbers_from k n) ≡ n
-numbers_length k zero = refl
-numbers_length k (suc n) = ap suc (numbers_length (suc k) n)
+use Rattle.lc_object_text.proofs.Distinct.{as_many}
 
 at_span : (spans : List Span) (arrays : List Array) (k : ℕ) (span : Span) → HaveSpans spans arrays → slice_get spans k ≡ Some span → columns_in (slice_get arrays k) ≡ numbers_from span.first span.width
 at_span [] arrays k span h e = absurd (cc)
@@ -33,7 +30,7 @@ of_span spans arrays h k (Some span) at a width e =
     let pair : row_of k span ≡ (a, width) = cc in
     let same : k ≡ a = ap (λ (p : ℕ × ℕ). p.0) pair in
     let wide : span.width ≡ width = ap (λ (p : ℕ × ℕ). p.1) pair in
-    (ap (λ n. columns_in (slice_get arrays n)) (sym same) ∙ at_span spans arrays k span h at, numbers_length span.first span.width ∙ wide)
+    (ap (λ n. columns_in (slice_get arrays n)) (sym same) ∙ at_span spans arrays k span h at, as_many span.first span.width ∙ wide)
 
 of_place : (spans : List Span) (arrays : List Array) → HaveSpans spans arrays → (o : Option ℕ) (a width : ℕ) → row_at spans o ≡ Some (a, width) → HasColumns arrays a width (columns_of_span (span_at spans o))
 of_place spans arrays h None a width e = absurd (cc)

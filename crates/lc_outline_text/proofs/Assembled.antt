@@ -3,24 +3,26 @@ use Rattle.std.proofs.Common.{◌≡◌, ℕ, zero, suc, ◌+◌, ◌≤◌, ◌
 use Rattle.std.proofs.lemmas.List.{length-map}
 use Rattle.std.specs.List.{list_all}
 use Rattle.std.specs.Prelude.{codes, nat_lt}
+use Rattle.std.proofs.lemmas.Bool.{and_from, eq-eqb}
+use Rattle.lc_lemmas.proofs.Booleans.{left_true}
 use Rattle.lc_base.specs.Limits.{condition_limit}
 use Rattle.lc_sexp.specs.Parts.{fits, form_fit}
 use Rattle.lc_sexp.specs.TreeCode.{tree_count}
 use Rattle.lc_sexp.specs.Trees.{Tree, Trees, none, ◌▸◌, item_count}
-use Rattle.lc_reading.proofs.Holding.{Holds, holds_of_fine, holds_unit, both_holds, ended_holds, limited_holds, and_true, holds_weaker, and_holds}
-use Rattle.lc_reading.specs.Readings.{Reading, fine, flawed, limited}
+use Rattle.lc_reading.proofs.Holding.{Holds, holds_of_fine, holds_unit, both_holds, ended_holds, limited_holds, holds_weaker, and_holds}
+use Rattle.lc_reading.specs.Readings.{fine, limited}
 use Rattle.lc_text.specs.Terms.{pair}
 use Rattle.lc_object.specs.Syntax.{Point}
 use Rattle.lc_object.specs.WellFormed.{is_object}
 use Rattle.lc_object_text.proofs.ArrayHolds.{columns_count, concretes_counted}
 use Rattle.lc_object_text.proofs.BodiesHold.{AreBodies}
 use Rattle.lc_object_text.proofs.Holding.{each_counted, each_form, some_forms, parts_counted}
-use Rattle.lc_object_text.proofs.ObjectHolds.{SpecificationFits, ObjectFits, names_counted, specification_fits, object_holds, code_fits}
+use Rattle.lc_object_text.proofs.ObjectHolds.{SpecificationFits, ObjectFits, names_counted, specification_fits, object_holds, code_fits, behind_two}
 use Rattle.lc_object_text.proofs.SignatureHolds.{IsOperation, IsSpecification, specification_holds}
 use Rattle.lc_object_text.specs.ObjectNames.{first_text, later, names_of_columns, columns_of_arrays, bodies_due, abstracts_in, arrays_in, auxiliaries_in, operations_in, declared_in_sections}
 use Rattle.lc_object_text.specs.Objects as O
 use Rattle.lc_object_text.specs.Points.{BodyText, code_alone}
-use Rattle.lc_object_text.specs.Sections.{items_of_fit, behind_item, behind_first, parts_in, some_forms_in, Sections, sections_of}
+use Rattle.lc_object_text.specs.Sections.{items_of_fit, behind_first, parts_in, some_forms_in, Sections, sections_of}
 use Rattle.lc_outline.specs.Development.{Development, first_system, invariant_of}
 use Rattle.lc_outline.specs.Resolved.{are_matched, action_is_resolved, edge_is_resolved, is_resolved}
 use Rattle.lc_outline.specs.Scope.{is_scoped, column_total, outlines_are_scoped}
@@ -33,7 +35,7 @@ use Rattle.lc_seq.specs.declared.specification.TextSpec.{TextSpec}
 use Rattle.lc_spec_text.proofs.Resolved.{specification_resolved}
 use Rattle.lc_spec_text.specs.Specifications as Q
 use Rattle.lc_outline_text.proofs.Agreed.{IsSpecificationSaid, specification_said, AreSame, signatures_are_same, operations_are_matched, has_some_branches, AllGo, all_go, go_counted, goes_at}
-use Rattle.lc_outline_text.proofs.Fitting.{Fits, and_true_left, same_number, actions_resolved, outlines_scoped, edges_resolved}
+use Rattle.lc_outline_text.proofs.Fitting.{Fits, actions_resolved, outlines_scoped, edges_resolved}
 use Rattle.lc_outline_text.proofs.ObjectOf.{IsObjectOf, object_reading_holds, object_is_one}
 use Rattle.lc_outline_text.proofs.Outlined.{AreBodiesOf, bodies_outlined, all_points, each_point, code_points, outline_points}
 use Rattle.lc_outline_text.proofs.Own.{own_there}
@@ -43,6 +45,7 @@ use Rattle.lc_outline_text.specs.Declarations.{Declarations, declarations_in, de
 use Rattle.lc_outline_text.specs.Developments.{Parts, specification_reading, tables_reading, object_reading, second_form_reading, code_of, development_of, forms_reading, file_reading}
 use Rattle.lc_outline_text.specs.Sides.{Sides, sides_reading}
 use Rattle.lc_outline_text.specs.Sizes.{condition_count}
+use Rattle.lc_outline_text.proofs.CodeAlone.{locals_fine}
 
 -- ---- the specification
 
@@ -52,14 +55,6 @@ pub record SpecificationHolds (s : Sections) (p : O.SpecificationText × Specifi
   pub columns : length p.0.abstracts ≡ length p.1.columns
   operations : AreSame p.0.signatures p.1.operations
   pub goes : AllGo (operations_in s) p.1.operations
-
-behind_one : (n : ℕ) (ts : Trees) → (behind_item n ts).trees ≡ later ts
-behind_one n none = refl
-behind_one n (t ▸ ts) = refl
-
-behind_two : (n : ℕ) (ts : Trees) → (behind_first (behind_item n ts)).trees ≡ later (later ts)
-behind_two n none = refl
-behind_two n (t ▸ ts) = behind_one (n + item_count t) ts
 
 -- where its operations are
 operations_there : (t u : Tree) (ts : Trees) → form_fit (codes "spec") t ≡ fits (parts_in (codes "spec") t) → (sections_of (t ▸ u ▸ ts)).operations.trees ≡ later (later (parts_in (codes "spec") t))
@@ -171,13 +166,13 @@ resolved_of s p o h g spec object =
     let D = development_of p o in
     let ps = all_points o.1 in
     let fit = fits_declared s p o h g in
-    let code = and_true _ (are_matched D.object.operations D.specification.operations)
-    (and_true _ (length D.object.abstracts == length D.specification.columns) (and_true (is_object D.object) (list_all (operation_is_resolved (length D.specification.columns)) D.specification.operations) object spec)
-    (same_number (length D.object.abstracts) (length D.specification.columns) h.columns)) fit.matched in
+    let code = and_from _ (are_matched D.object.operations D.specification.operations)
+    (and_from _ (length D.object.abstracts == length D.specification.columns) (and_from (is_object D.object) (list_all (operation_is_resolved (length D.specification.columns)) D.specification.operations) object spec)
+    (eq-eqb (length D.object.abstracts) (length D.specification.columns) h.columns)) fit.matched in
     let within = sym (ap column_count fit.columns) in
-    let sides = and_true _ (outlines_are_scoped D D.object.points D.outlines) (and_true (list_all (is_scoped (column_total D) 1) (invariant_of D)) (list_all (is_scoped (column_total D) 2) D.idle)
+    let sides = and_from _ (outlines_are_scoped D D.object.points D.outlines) (and_from (list_all (is_scoped (column_total D) 1) (invariant_of D)) (list_all (is_scoped (column_total D) 2) D.idle)
     (subst (λ n. list_all (is_scoped n 1) (invariant_of D) ≡ true) within g.sides.invariant) (subst (λ n. list_all (is_scoped n 2) D.idle ≡ true) within g.sides.idle)) (outlines_scoped d D ps fit) in
-    and_true _ (list_all (edge_is_resolved D) (edges D.object)) (and_true _ (list_all (action_is_resolved D) D.actions) (and_true _ _ code sides) (actions_resolved d D ps fit)) (edges_resolved d D ps fit)
+    and_from _ (list_all (edge_is_resolved D) (edges D.object)) (and_from _ (list_all (action_is_resolved D) D.actions) (and_from _ _ code sides) (actions_resolved d D ps fit)) (edges_resolved d D ps fit)
 
 seconds_hold : (s : Sections) (n : ℕ) (ts : Trees) → Holds (ObjectHolds s) (second_form_reading (declarations_in s) s n ts)
 seconds_hold s n none = tt
@@ -199,7 +194,7 @@ development_is_resolved ts D e spec = holds_of_fine IsSound (forms_reading (decl
 pub text_is_resolved : (q : TextSpec) → list_all (operation_is_resolved (length (specification_of q).columns)) (specification_of q).operations ≡ true
 text_is_resolved q =
     let operations = operations_of q.operations.items in
-    subst (λ n. list_all (operation_is_resolved n) operations ≡ true) (sym (length-map q.columns.items column_of)) (and_true_left (list_all (operation_is_resolved (length q.columns.items)) operations) (names_differ operations) q.is_resolved)
+    subst (λ n. list_all (operation_is_resolved n) operations ≡ true) (sym (length-map q.columns.items column_of)) (left_true (list_all (operation_is_resolved (length q.columns.items)) operations) (names_differ operations) q.is_resolved)
 
 -- ---- what a file says
 
@@ -215,10 +210,6 @@ specified d s n (t ▸ ts) =
     (holds_unit (O.specification_reading d.declared n t)) (specification_resolved d.declared.columns n t) (λ p q u h. h))
     (holds_unit (second_form_reading d s (n + item_count t) ts)) (λ p o h u. h)
 
-reads_itself : {X : Type 0} (r : Reading X) → Holds (λ x. r ≡ fine x) r
-reads_itself (fine x) = refl
-reads_itself (flawed f) = tt
-
 -- the development that forms say is resolved
 pub forms_resolved : (ts : Trees) (D : Development) → forms_reading (declarations_of ts) (sections_of ts) 0 ts ≡ fine D → is_resolved D ≡ true
 forms_resolved ts D read =
@@ -229,4 +220,4 @@ pub says_resolved : (ts : Trees) (D : Development) → file_reading ts ≡ fine 
 says_resolved ts D e =
     let forms = forms_reading (declarations_of ts) (sections_of ts) 0 ts in
     let within = nat_lt condition_limit (condition_count (declarations_of ts) (sections_of ts)) in
-    forms_resolved ts D (holds_of_fine (λ (E : Development). forms ≡ fine E) (limited within 0 forms) D (limited_holds (λ (E : Development). forms ≡ fine E) within 0 forms (reads_itself forms)) e)
+    forms_resolved ts D (holds_of_fine (λ (E : Development). forms ≡ fine E) (limited within 0 forms) D (limited_holds (λ (E : Development). forms ≡ fine E) within 0 forms (locals_fine forms)) e)

@@ -27,10 +27,7 @@ use Rattle.lc_outline_text.specs.Declarations.{Declarations, known_of, own_ways}
 use Rattle.lc_outline_text.specs.Developments.{code_of}
 use Rattle.lc_outline_text.specs.Needs.{code_word, edges_of}
 use Rattle.lc_outline_text.specs.Points.{formulas_in_reading, outline_of, outline_reading, beside}
-
-all_read : {X : Type 0} (P : X → Type 0) (r : Reading X) → ((x : X) → P x) → Holds P r
-all_read P (fine x) h = h x
-all_read P (flawed f) h = tt
+use Rattle.lc_rider_text.proofs.ChoicesKnown.{all_hold}
 
 -- a list that reads so begins with its word
 headed : {X : Type 0} (word : List ℕ) (read : ℕ → ℕ → Trees → Reading X) (n : ℕ) (t : Tree) → Holds (λ x. headed_reading word n t ≡ fine tt) (behind_reading word read n t)
@@ -39,7 +36,7 @@ headed word read n (list none) = tt
 headed word read n (list (list us ▸ ts)) = tt
 headed {X} word read n (list (atom w ▸ ts)) = by_test (is w word) where
   by_test : (b : Bool) → Holds (λ x. cond b (nothing_more n (n + 2) ts) (wrong Shape n) ≡ fine tt) (cond b (read n (n + 2) ts) (wrong Shape n))
-  by_test true = all_read (λ x. nothing_more n (n + 2) ts ≡ fine tt) (read n (n + 2) ts) (λ x. refl)
+  by_test true = all_hold (λ x. nothing_more n (n + 2) ts ≡ fine tt) (read n (n + 2) ts) (λ x. refl)
   by_test false = tt
 
 one_more : (m : ℕ) (t : Tree) (ts : Trees) (us : List (Unit {0})) → headed_reading (codes "on") m t ≡ fine tt → each_reading (headed_reading (codes "on")) (m + item_count t) ts ≡ fine us
@@ -126,7 +123,7 @@ points_code d b side h o n m none = tt
 points_code d b side h o n m (t ▸ ts) =
     by_row (λ p. p.0) (point_reading d b side o) (point_reading d b code_alone o) (λ i n t. by_word (λ p. p.0) (codes "point") (point_parts d b side o i) (point_parts d b code_alone o i) (point_code d b side h o i) n t) 0 m (t ▸ ts)
 
-locals_fine : {X : Type 0} (r : Reading X) → Holds (λ x. r ≡ fine x) r
+pub locals_fine : {X : Type 0} (r : Reading X) → Holds (λ x. r ≡ fine x) r
 locals_fine (fine x) = refl
 locals_fine (flawed f) = tt
 

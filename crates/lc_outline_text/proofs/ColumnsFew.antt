@@ -1,5 +1,5 @@
 -- There are few columns and few actions in a development that is read.
-use Rattle.std.proofs.Common.{◌≡◌, ℕ, zero, suc, ◌+◌, ◌≤◌, ◌<◌, Bool, true, false, cond, Option, None, List, [], ◌∷◌, length, length-append, refl, ap, ◌∙◌, subst, arith}
+use Rattle.std.proofs.Common.{◌≡◌, ℕ, suc, ◌+◌, ◌≤◌, ◌<◌, Bool, true, false, cond, None, List, [], ◌∷◌, length, length-append, ap, ◌∙◌, subst, arith}
 use Rattle.std.specs.Prelude.{codes, slice_get, nat_le}
 use Rattle.lc_base.specs.Limits.{action_limit, column_limit, width_limit}
 use Rattle.lc_sexp.specs.Parts.{fits, misshapen}

@@ -2,7 +2,9 @@
 use Rattle.std.proofs.Common.{◌≡◌, ℕ, zero, suc, ◌+◌, ◌<◌, ◌≤◌, Bool, true, false, ◌||◌, ◌==◌, if◌then◌else◌, List, [], ◌∷◌, ◌++◌, refl, sym, ap, ap₂, ◌∙◌, arith}
 use Rattle.std.proofs.lemmas.Bool.Decides.{nat_tests}
 use Rattle.std.proofs.lemmas.List.Folds.{list_any-append}
+use Rattle.std.proofs.lemmas.Bool.{eqb-true}
 use mathlib.Core.Path.{fun_ext}
+use Rattle.lc_lemmas.proofs.Numbers.{swapped_sum, above_from_test}
 use Rattle.lc_term.specs.Lists.{Every}
 use Rattle.lc_outline.specs.Sizes.{different}
 use Rattle.lc_outline_text.specs.Paths.{stands}
@@ -34,27 +36,18 @@ here : (s : Bool) (m : ℕ) → 1 + m ≡ absent s + (present s + m)
 here true m = omega arith
 here false m = omega arith
 
-swapped : (a b m : ℕ) → a + (b + m) ≡ b + (a + m)
-swapped a b m = omega arith
-
-same : (m n : ℕ) → (m == n) ≡ true → m ≡ n
-same m n h = grind (arith, nat_tests)
-
-above : (m n : ℕ) → (m == n) ≡ false → n ≤ m → n < m
-above m n h g = grind (arith, nat_tests)
-
 one_more : (z : ℕ) (zs : List ℕ) (c n : ℕ) → c ≤ z → z < c + n → within c n (stands (z ∷ zs)) ≡ absent (stands zs z) + within c n (stands zs)
 one_more z zs c zero h g = absurd (omega arith)
 one_more z zs c (suc n) h g = by (λ low. one_more z zs (suc c) n low (omega arith)) (z == c) refl
   where
     by : (suc c ≤ z → within (suc c) n (stands (z ∷ zs)) ≡ absent (stands zs z) + within (suc c) n (stands zs)) → (b : Bool) → (z == c) ≡ b → within c (suc n) (stands (z ∷ zs)) ≡ absent (stands zs z) + within c (suc n) (stands zs)
     by later true e =
-        ap₂ (λ b m. present (b || stands zs c) + m) e (behind z zs (suc c) n (let eq = same z c e in omega (arith, eq)))
+        ap₂ (λ b m. present (b || stands zs c) + m) e (behind z zs (suc c) n (let eq = eqb-true z c e in omega (arith, eq)))
         ∙ here (stands zs c) (within (suc c) n (stands zs))
-        ∙ ap (λ k. absent (stands zs k) + within c (suc n) (stands zs)) (sym (same z c e))
+        ∙ ap (λ k. absent (stands zs k) + within c (suc n) (stands zs)) (sym (eqb-true z c e))
     by later false e =
-        ap₂ (λ b m. present (b || stands zs c) + m) e (later (let gt = above z c e h in omega (arith, gt)))
-        ∙ swapped (present (stands zs c)) (absent (stands zs z)) (within (suc c) n (stands zs))
+        ap₂ (λ b m. present (b || stands zs c) + m) e (later (let gt = above_from_test z c e h in omega (arith, gt)))
+        ∙ swapped_sum (present (stands zs c)) (absent (stands zs z)) (within (suc c) n (stands zs))
 
 different_within : (n : ℕ) (zs : List ℕ) → Every (λ c. c < n) zs → within 0 n (stands zs) ≡ different zs
 different_within n [] h = none_within 0 n
@@ -113,4 +106,4 @@ or_none false = refl
 pub stands_again : (xs : List ℕ) (c : ℕ) → stands xs c ≡ true → stands (xs ++ c ∷ []) ≡ stands xs
 stands_again xs c h = fun_ext (λ k.
     list_any-append (λ j. j == k) xs (c ∷ []) ∙ ap (λ b. stands xs k || b) (or_none (c == k))
-    ∙ or_itself (stands xs k) (c == k) (λ e. ap (stands xs) (sym (same c k e)) ∙ h))
+    ∙ or_itself (stands xs k) (c == k) (λ e. ap (stands xs) (sym (eqb-true c k e)) ∙ h))

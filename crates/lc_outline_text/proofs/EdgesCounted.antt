@@ -20,7 +20,7 @@ use Rattle.lc_outline.specs.Development.{Development, Outline, first_system, inv
 use Rattle.lc_outline.specs.Sizes.{columns_of, EdgeSize, way_count, edge_count, columns_acted, rider_ways, returned, ended_columns, edge_size, edge_sizes}
 use Rattle.lc_outline.specs.Development.{riders_in}
 use Rattle.lc_outline_text.specs.Declarations.{Declarations}
-use Rattle.lc_naming.specs.EdgeWords.{edge_word}
+use Rattle.lc_outline.specs.EdgeWords.{edge_word}
 use Rattle.lc_outline_text.specs.Needs.{goes_next, branches_off}
 use Rattle.lc_outline_text.specs.Sizes as Z
 use Rattle.lc_outline_text.specs.Sizes.{Totals, assert_count, ons_of, count_at, reached, text_at, asked_behind, columns_written, edge_conditions, on_of, point_conditions}

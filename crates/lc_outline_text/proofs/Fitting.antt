@@ -1,12 +1,11 @@
 -- What is beside the code of a development fits the code.
-use Rattle.std.proofs.Common.{◌≡◌, ℕ, zero, suc, ◌+◌, ◌<◌, ◌≤◌, Bool, true, false, ◌&&◌, ◌==◌, cond, Option, List, [], ◌∷◌, ◌++◌, map, length, length-append, append_assoc, Some, refl, sym, ap, ap₂, ◌∙◌, subst, arith}
-use Rattle.std.proofs.lemmas.Bool.{eq-eqb}
-use Rattle.std.proofs.lemmas.Bool.Decides.{nat_tests}
+use Rattle.std.proofs.Common.{◌≡◌, ℕ, zero, suc, ◌+◌, ◌<◌, Bool, true, false, ◌&&◌, cond, Option, List, [], ◌∷◌, ◌++◌, map, length, length-append, append_assoc, Some, refl, sym, ap, ap₂, ◌∙◌, subst, arith}
+use Rattle.std.proofs.lemmas.Bool.{eq-eqb, and_from, le-leb}
 use Rattle.std.specs.List.{list_all}
 use Rattle.std.specs.Prelude.{nat_lt, nat_le, slice_get, is_some}
-use Rattle.lc_base.specs.Limits.{path_limit, rider_limit}
+use Rattle.lc_lemmas.proofs.Booleans.{left_true, right_true}
+use Rattle.lc_base.specs.Limits.{path_limit, rider_limit, parameter_limit}
 use Rattle.lc_sexp.specs.Trees.{Trees}
-use Rattle.lc_reading.proofs.Holding.{and_true}
 use Rattle.lc_term.specs.Lists.{Every}
 use Rattle.lc_term.specs.SystemColumns.{column_count}
 use Rattle.lc_action.specs.Action.{Action}
@@ -61,27 +60,13 @@ pub record Fits (d : Declarations) (D : Development) (ps : List (Point × Outlin
 
 -- ---- tests
 
-pub same_number : (m n : ℕ) → m ≡ n → (m == n) ≡ true
-same_number m n e = eq-eqb m n e
-
-is_few : (k limit : ℕ) → k ≤ limit → nat_le k limit ≡ true
-is_few k limit h = grind (arith, nat_tests)
-
-pub and_true_left : (a b : Bool) → (a && b) ≡ true → a ≡ true
-and_true_left true b h = refl
-and_true_left false b h = absurd (cc)
-
-right : (a b : Bool) → (a && b) ≡ true → b ≡ true
-right true b h = h
-right false b h = absurd (cc)
-
 all_both : {X : Type 0} (test : X → Bool) (xs ys : List X) → list_all test xs ≡ true → list_all test ys ≡ true → list_all test (xs ++ ys) ≡ true
 all_both test [] ys h g = g
-all_both test (x ∷ xs) ys h g = and_true (test x) (list_all test (xs ++ ys)) (and_true_left (test x) (list_all test xs) h) (all_both test xs ys (right (test x) (list_all test xs) h) g)
+all_both test (x ∷ xs) ys h g = and_from (test x) (list_all test (xs ++ ys)) (left_true (test x) (list_all test xs) h) (all_both test xs ys (right_true (test x) (list_all test xs) h) g)
 
 all_weaker : {X : Type 0} (test other : X → Bool) → ((x : X) → test x ≡ true → other x ≡ true) → (xs : List X) → list_all test xs ≡ true → list_all other xs ≡ true
 all_weaker test other f [] h = refl
-all_weaker test other f (x ∷ xs) h = and_true (other x) (list_all other xs) (f x (and_true_left (test x) (list_all test xs) h)) (all_weaker test other f xs (right (test x) (list_all test xs) h))
+all_weaker test other f (x ∷ xs) h = and_from (other x) (list_all other xs) (f x (left_true (test x) (list_all test xs) h)) (all_weaker test other f xs (right_true (test x) (list_all test xs) h))
 
 -- ---- operations
 
@@ -98,7 +83,7 @@ pub matched_below : (os : List O.Operation) (qs : List Q.Operation) (k : ℕ) (o
 matched_below [] qs k o h e = absurd (cc)
 matched_below (p ∷ os) [] k o h e = absurd (cc)
 matched_below (p ∷ os) (q ∷ qs) zero o h e = omega arith
-matched_below (p ∷ os) (q ∷ qs) (suc k) o h e = omega (arith, matched_below os qs k o (right (is_matched p q) (are_matched os qs) h) e)
+matched_below (p ∷ os) (q ∷ qs) (suc k) o h e = omega (arith, matched_below os qs k o (right_true (is_matched p q) (are_matched os qs) h) e)
 
 -- ---- actions
 
@@ -106,7 +91,7 @@ taken : (known : Known) (forms : List Trees) (actions : List Action) (a n : ℕ)
     → takes (slice_get actions a) n ≡ true
 taken known [] actions a n h few f = absurd (omega (arith, few))
 taken known (t ∷ forms) [] a n h few f = absurd h
-taken known (t ∷ forms) (x ∷ actions) zero n h few f = same_number n (length x.parameters) (f (parameter_count t) refl ∙ sym h.0.0)
+taken known (t ∷ forms) (x ∷ actions) zero n h few f = eq-eqb n (length x.parameters) (f (parameter_count t) refl ∙ sym h.0.0)
 taken known (t ∷ forms) (x ∷ actions) (suc a) n h few f = taken known forms actions a n h.1 (omega (arith, few)) f
 
 actions_stored : (known : Known) (D : Development) (forms : List Trees) (actions : List Action) → first_system D ≡ length known.columns → AreActionsOf known forms actions → list_all (action_is_resolved D) actions ≡ true
@@ -114,8 +99,8 @@ actions_stored known D [] [] e h = refl
 actions_stored known D [] (x ∷ actions) e h = absurd h
 actions_stored known D (t ∷ forms) [] e h = absurd h
 actions_stored known D (t ∷ forms) (x ∷ actions) e h =
-    and_true (action_is_resolved D x) (list_all (action_is_resolved D) actions)
-    (subst (λ n. (nat_le (length x.parameters) 3 && action_is_scoped (column_count n) x) ≡ true) (sym e) h.0.1)
+    and_from (action_is_resolved D x) (list_all (action_is_resolved D) actions)
+    (subst (λ n. (nat_le (length x.parameters) parameter_limit && action_is_scoped (column_count n) x) ≡ true) (sym e) h.0.1)
     (actions_stored known D forms actions e h.1)
 
 pub actions_resolved : (d : Declarations) (D : Development) (ps : List (Point × Outline)) → Fits d D ps → list_all (action_is_resolved D) D.actions ≡ true
@@ -131,8 +116,8 @@ deed_resolved d D ps o (Marks k by) h b e =
 
 rider_resolved : (d : Declarations) (D : Development) (ps : List (Point × Outline)) (o : ℕ) → Fits d D ps → o < length d.declared.operations → (r : Rider) → rider_is_known (known_of d) (own_ways d o) r ≡ true → rider_is_resolved D o r ≡ true
 rider_resolved d D ps o h b r e =
-    and_true (condition_is_resolved r.condition) (deed_is_resolved D o r.deed) (and_true_left (condition_is_resolved r.condition) (deed_is_known (known_of d) (own_ways d o) r.deed) e)
-    (deed_resolved d D ps o r.deed h b (right (condition_is_resolved r.condition) (deed_is_known (known_of d) (own_ways d o) r.deed) e))
+    and_from (condition_is_resolved r.condition) (deed_is_resolved D o r.deed) (left_true (condition_is_resolved r.condition) (deed_is_known (known_of d) (own_ways d o) r.deed) e)
+    (deed_resolved d D ps o r.deed h b (right_true (condition_is_resolved r.condition) (deed_is_known (known_of d) (own_ways d o) r.deed) e))
 
 -- ---- edges
 
@@ -144,7 +129,7 @@ on_resolved d D ps o e kind (x ∷ ons) h b g f = by_kind (same_kind x.edge kind
   by_kind : (c : Bool) → ((is_some (on_for ons kind) ≡ false → is_empty e.updates ≡ true) → on_is_resolved D o e (on_for ons kind) ≡ true)
       → (is_some (cond c (Some x) (on_for ons kind)) ≡ false → is_empty e.updates ≡ true) → on_is_resolved D o e (cond c (Some x) (on_for ons kind)) ≡ true
   by_kind true next f =
-      and_true (takes (slice_get D.actions x.action) (length x.arguments)) (list_all (rider_is_resolved D o) x.riders)
+      and_from (takes (slice_get D.actions x.action) (length x.arguments)) (list_all (rider_is_resolved D o) x.riders)
       (taken (known_of d) d.actions D.actions x.action (length x.arguments) h.actions g.0.0.0 g.0.0.1)
       (all_weaker (rider_is_known (known_of d) (own_ways d o)) (rider_is_resolved D o) (rider_resolved d D ps o h b) x.riders g.0.1)
   by_kind false next f = next f
@@ -174,7 +159,7 @@ placed_edges : (d : Declarations) (D : Development) (ps : List (Point × Outline
     → Every (IsOnKnown (known_of d) (own_ways d o)) ons → AtPlace D k o ons → Every (IsEdgeOf k ons) es → list_all (edge_is_resolved D) es ≡ true
 placed_edges d D ps k o ons [] h b g at f = refl
 placed_edges d D ps k o ons (e ∷ es) h b g at f =
-    and_true (edge_is_resolved D e) (list_all (edge_is_resolved D) es)
+    and_from (edge_is_resolved D e) (list_all (edge_is_resolved D) es)
     (ap₂ (λ n x. on_is_resolved D n e x) (ap (operation_at D.object) f.0.0 ∙ at.0) (ap (λ n. on_at D n e.kind) f.0.0 ∙ at.1 e.kind) ∙ on_resolved d D ps o e e.kind ons h b g f.0.1)
     (placed_edges d D ps k o ons es h b g at f.1)
 
@@ -229,7 +214,7 @@ outline_good d D ps p h (b, e, g) =
 
 outlines_good : (d : Declarations) (D : Development) (ps rest : List (Point × Outline)) → Fits d D ps → Every (IsAPoint d) rest → outlines_are_scoped D (map (λ p. p.0) rest) (map (λ p. p.1) rest) ≡ true
 outlines_good d D ps [] h g = refl
-outlines_good d D ps (p ∷ rest) h g = and_true _ _ (outline_good d D ps p h g.0) (outlines_good d D ps rest h g.1)
+outlines_good d D ps (p ∷ rest) h g = and_from _ _ (outline_good d D ps p h g.0) (outlines_good d D ps rest h g.1)
 
 one_behind : (before rest : List (Point × Outline)) (p : Point × Outline) (ps : List (Point × Outline)) → ps ≡ before ++ p ∷ rest → ps ≡ (before ++ p ∷ []) ++ rest
 one_behind before rest p ps e = e ∙ sym (append_assoc before (p ∷ []) rest)
@@ -256,9 +241,9 @@ ons_few : (d : Declarations) (D : Development) (own : Option Ways) (o : ℕ) (on
 ons_few d D own o [] agree goes h = refl
 ons_few d D own o (x ∷ ons) agree goes h =
     let riders = x.riders in
-    and_true (on_is_limited D.specification.operations o x) (list_all (on_is_limited D.specification.operations o) ons)
-    (and_true (nat_le (length riders) rider_limit) (nat_le (path_total D.specification.operations o riders) path_limit) (is_few (length riders) rider_limit h.0.0)
-    (is_few (path_total D.specification.operations o riders) path_limit (h.0.1 D.specification.operations o agree goes)))
+    and_from (on_is_limited D.specification.operations o x) (list_all (on_is_limited D.specification.operations o) ons)
+    (and_from (nat_le (length riders) rider_limit) (nat_le (path_total D.specification.operations o riders) path_limit) (le-leb (length riders) rider_limit h.0.0)
+    (le-leb (path_total D.specification.operations o riders) path_limit (h.0.1 D.specification.operations o agree goes)))
     (ons_few d D own o ons agree goes h.1)
 
 point_few : (d : Declarations) (D : Development) (ps : List (Point × Outline)) (p : Point × Outline) → Fits d D ps → IsAPoint d p → list_all (on_is_limited D.specification.operations p.0.operation) p.1.ons ≡ true
@@ -270,7 +255,7 @@ point_few d D ps p h (b, e, g) =
 outlines_few : (d : Declarations) (D : Development) (ps rest : List (Point × Outline)) → Fits d D ps → Every (IsAPoint d) rest
     → outlines_are_limited D.specification.operations (map (λ p. p.0) rest) (map (λ p. p.1) rest) ≡ true
 outlines_few d D ps [] h g = refl
-outlines_few d D ps (p ∷ rest) h g = and_true _ _ (point_few d D ps p h g.0) (outlines_few d D ps rest h g.1)
+outlines_few d D ps (p ∷ rest) h g = and_from _ _ (point_few d D ps p h g.0) (outlines_few d D ps rest h g.1)
 
 pub outlines_limited : (d : Declarations) (D : Development) (ps : List (Point × Outline)) → Fits d D ps → outlines_are_limited D.specification.operations D.object.points D.outlines ≡ true
 outlines_limited d D ps h =

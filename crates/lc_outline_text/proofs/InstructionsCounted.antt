@@ -7,10 +7,10 @@ use Rattle.lc_sexp.specs.Trees.{Tree, Trees, atom, list, none, ◌▸◌, item_c
 use Rattle.lc_reading.proofs.Holding.{Holds, holds_unit, both_holds, if_holds}
 use Rattle.lc_reading.proofs.Words.{is-true}
 use Rattle.lc_reading.specs.Naming.{known}
-use Rattle.lc_reading.specs.Readings.{fine, wrong}
+use Rattle.lc_reading.specs.Readings.{wrong}
 use Rattle.lc_reading.specs.Rows.{each_reading}
-use Rattle.lc_reading.specs.Words.{is, is_long}
-use Rattle.lc_reading.specs.declared.pass.Pass.TheVariants.{Shape, Bound}
+use Rattle.lc_reading.specs.Words.{is}
+use Rattle.lc_reading.specs.declared.pass.Pass.TheVariants.{Shape}
 use Rattle.lc_term.specs.Syntax.{Term}
 use Rattle.lc_text.specs.Names.{Names}
 use Rattle.lc_text.specs.Terms.{pair, term_reading}
@@ -23,7 +23,8 @@ use Rattle.lc_object_text.specs.Heads.{head_of}
 use Rattle.lc_object_text.specs.Instructions.{place_reading, labels_reading, moved_reading, stored_reading, rows_reading, exchange_reading, load_of, load_reading, store_of, store_reading, cas_of, cas_reading, set_of, set_reading, adding_reading, faa_of, faa_reading, if_of, if_reading, code_reading, return_of, return_reading, instruction_reading}
 use Rattle.lc_object_text.specs.ObjectNames.{text_in, first_text, items_within}
 use Rattle.lc_outline_text.specs.Sizes.{text_at}
-use Rattle.lc_outline_text.proofs.RowsCounted.{each_count}
+use Rattle.lc_spec_text.proofs.Ways.{each_counted}
+use Rattle.lc_object_text.proofs.CodeHolds.{found_holds}
 
 -- what an instruction names, by the parts of its text
 abbrev pub IsCoded : CodeNames → Trees → Instr → Type 0
@@ -38,17 +39,13 @@ IsCoded code c (S.Return vs) = first_text c ≡ codes "return"
 
 -- ---- parts
 
-found_said : {X : Type 0} (P : X → Type 0) (n : ℕ) (w : List ℕ) (o : Option X) → ((x : X) → o ≡ Some x → P x) → Holds P (known n w o)
-found_said P n w None h = tt
-found_said P n w (Some x) h = if_holds P (is_long w) (wrong Bound n) (fine x) tt (h x refl)
-
 module _ (names : Names) (code : CodeNames) where
   abbrev IsLabel : Tree → ℕ → Type 0
   IsLabel t l = code.label (text_in t) ≡ Some l
 
   label_said : (n : ℕ) (t : Tree) → Holds (IsLabel t) (label_reading code n t)
   label_said n (list ts) = tt
-  label_said n (atom w) = if_holds (IsLabel (atom w)) (is_name w) (known n w (code.label w)) (wrong Shape n) (found_said (IsLabel (atom w)) n w (code.label w) (λ l e. e)) tt
+  label_said n (atom w) = if_holds (IsLabel (atom w)) (is_name w) (known n w (code.label w)) (wrong Shape n) (found_holds (IsLabel (atom w)) n w (code.label w) (λ l e. e)) tt
 
   -- an array, and its width
   abbrev IsArray : Tree → ℕ → Type 0
@@ -58,7 +55,7 @@ module _ (names : Names) (code : CodeNames) where
   array_said n (list ts) = tt
   array_said n (atom w) =
       if_holds (IsArray (atom w)) (is_name w) (known n w (option_map (λ (row : ℕ × ℕ). row.0) (code.array w))) (wrong Shape n)
-      (found_said (IsArray (atom w)) n w (option_map (λ (row : ℕ × ℕ). row.0) (code.array w)) (λ a e. of_row (code.array w) refl a e)) tt where
+      (found_holds (IsArray (atom w)) n w (option_map (λ (row : ℕ × ℕ). row.0) (code.array w)) (λ a e. of_row (code.array w) refl a e)) tt where
         of_row : (o : Option (ℕ × ℕ)) → code.array w ≡ o → (a : ℕ) → option_map (λ (row : ℕ × ℕ). row.0) o ≡ Some a → IsArray (atom w) a
         of_row None e a h = absurd (cc)
         of_row (Some row) e a h =
@@ -73,7 +70,7 @@ module _ (names : Names) (code : CodeNames) where
 
   values_said : (width : Option ℕ) (n : ℕ) (t : Tree) → Holds (HaveWidth width) (values_reading names width n t)
   values_said width n t =
-      row_holds (λ ts vs. length vs ≡ tree_count ts) width (HaveWidth width) (each_reading (term_reading names [])) n t (each_count (term_reading names [])) (λ ts vs c h. subst (Counted width) (sym h) c)
+      row_holds (λ ts vs. length vs ≡ tree_count ts) width (HaveWidth width) (each_reading (term_reading names [])) n t (each_counted (term_reading names [])) (λ ts vs c h. subst (Counted width) (sym h) c)
 
   labels_said : (i : ℕ) (t : Tree) (j : ℕ) (u : Tree) → Holds (λ (p : ℕ × ℕ). IsLabel t p.0 × IsLabel u p.1) (labels_reading code i t j u)
   labels_said i t j u =

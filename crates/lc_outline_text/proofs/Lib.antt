@@ -12,7 +12,7 @@ mod FileReads
 mod Fitting
 mod Going
 mod InstructionsCounted
-mod LimitsHold
+pub mod LimitsHold
 mod MadeBodies
 mod MarksCounted
 mod Needed

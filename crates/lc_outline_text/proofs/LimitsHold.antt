@@ -1,10 +1,11 @@
 -- A development that is read is within its limits.
-use Rattle.std.proofs.Common.{◌≡◌, ℕ, ◌+◌, ◌≤◌, Bool, true, false, ◌&&◌, None, List, [], length, length-append, refl, sym, ap, ◌∙◌, subst, arith}
-use Rattle.std.proofs.lemmas.Bool.Decides.{nat_tests}
+use Rattle.std.proofs.Common.{◌≡◌, ℕ, ◌+◌, ◌≤◌, Bool, true, false, ◌&&◌, None, List, [], length, refl, sym, ap, subst, arith}
 use Rattle.std.specs.Prelude.{codes, nat_le, nat_lt, slice_get, Result, Ok, Err, IfOk}
+use Rattle.std.proofs.lemmas.Bool.{and_from, le-leb}
+use Rattle.lc_lemmas.proofs.Numbers.{at_most_from_test}
 use Rattle.lc_base.specs.Limits.{action_limit, column_limit, condition_limit}
 use Rattle.lc_sexp.specs.Trees.{Tree, Trees, none, ◌▸◌, item_count}
-use Rattle.lc_reading.proofs.Holding.{Holds, holds_of_fine, holds_unit, holds_weaker, both_holds, ended_holds, and_holds, and_true}
+use Rattle.lc_reading.proofs.Holding.{Holds, holds_of_fine, holds_unit, holds_weaker, both_holds, ended_holds, and_holds}
 use Rattle.lc_reading.specs.Naming.{name_reading}
 use Rattle.lc_reading.specs.Readings.{Reading, fine, flawed, limited}
 use Rattle.lc_reading.specs.declared.flaw.ReadFault.{ReadFault}
@@ -12,7 +13,7 @@ use Rattle.lc_text.specs.Terms.{pair}
 use Rattle.lc_action.specs.Action.{Action}
 use Rattle.lc_seq.specs.Specification.{Column, Specification}
 use Rattle.lc_spec_text.specs.Specifications as Q
-use Rattle.lc_object_text.specs.ObjectNames.{Declared, abstracts_in, declared_in_sections}
+use Rattle.lc_object_text.specs.ObjectNames.{abstracts_in, declared_in_sections}
 use Rattle.lc_object_text.specs.Objects as O
 use Rattle.lc_object_text.specs.Rows.{lists_reading}
 use Rattle.lc_object_text.specs.Sections.{Sections, behind_first, sections_of}
@@ -33,12 +34,6 @@ use Rattle.lc_outline_text.specs.Developments.{Parts, specification_reading, tab
 use Rattle.lc_outline_text.specs.Sides.{Sides, sides_of, actions_reading, conditions_reading, sides_reading}
 use Rattle.lc_outline_text.specs.Sizes.{condition_count}
 use Rattle.lc_outline_text.specs.Views.{IsFileRead}
-
-is_few : (k limit : ℕ) → k ≤ limit → nat_le k limit ≡ true
-is_few k limit h = grind (arith, nat_tests)
-
-few_of : (k limit : ℕ) → nat_lt limit k ≡ false → k ≤ limit
-few_of k limit e = grind (arith, nat_tests)
 
 -- ---- columns and actions
 
@@ -133,25 +128,25 @@ forms_few (t ▸ u ▸ ts) =
     (and_holds (SpecificationHolds s) HasFew r (specification_of_text t u ts) (specification_few t d 0)) (second_few s (0 + item_count t) (u ▸ ts)) (within_of s)
 
 -- what is read within a limit
-within : {X : Type 0} (b : Bool) (n : ℕ) (r : Reading X) (x : X) → limited b n r ≡ fine x → (b ≡ false) × (r ≡ fine x)
-within true n (fine y) x e = absurd (cc)
-within true n (flawed f) x e = absurd (cc)
-within false n r x e = (refl, e)
+pub limited_parts : {X : Type 0} (b : Bool) (n : ℕ) (r : Reading X) (x : X) → limited b n r ≡ fine x → (b ≡ false) × (r ≡ fine x)
+limited_parts true n (fine y) x e = absurd (cc)
+limited_parts true n (flawed f) x e = absurd (cc)
+limited_parts false n r x e = (refl, e)
 
 -- the development that a file says is within its limits
 says_limited : (ts : Trees) (D : Development) → file_reading ts ≡ fine D → is_limited D ≡ true
 says_limited ts D e =
     let forms = forms_reading (declarations_of ts) (sections_of ts) 0 ts in
     let text = condition_count (declarations_of ts) (sections_of ts) in
-    let read = within (nat_lt condition_limit text) 0 forms D e in
+    let read = limited_parts (nat_lt condition_limit text) 0 forms D e in
     let few = holds_of_fine IsWithin forms D (forms_few ts) read.1 in
-    let conditions : count (sizes_of D) ≤ condition_limit = subst (λ k. k ≤ condition_limit) (sym (forms_sized ts D read.1)) (few_of text condition_limit read.0) in
+    let conditions : count (sizes_of D) ≤ condition_limit = subst (λ k. k ≤ condition_limit) (sym (forms_sized ts D read.1)) (at_most_from_test text condition_limit read.0) in
     let a = nat_le (first_system D) column_limit in
     let b = nat_le (length D.actions) action_limit in
     let c = outlines_are_limited D.specification.operations D.object.points D.outlines in
-    and_true (a && b && c) (nat_le (count (sizes_of D)) condition_limit)
-    (and_true (a && b) c (and_true a b (is_few (first_system D) column_limit few.columns) (is_few (length D.actions) action_limit few.actions)) few.outlines)
-    (is_few (count (sizes_of D)) condition_limit conditions)
+    and_from (a && b && c) (nat_le (count (sizes_of D)) condition_limit)
+    (and_from (a && b) c (and_from a b (le-leb (first_system D) column_limit few.columns) (le-leb (length D.actions) action_limit few.actions)) few.outlines)
+    (le-leb (count (sizes_of D)) condition_limit conditions)
 
 pub read_limited : (ts : Trees) (result : Result P.Parts ReadFault) → IsFileRead ts result → IfOk result (λ parts. is_limited (parts_view parts) ≡ true)
 read_limited ts (Ok parts) h = says_limited ts (parts_view parts) h

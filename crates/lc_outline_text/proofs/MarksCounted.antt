@@ -1,9 +1,10 @@
 -- A mark is passed in the ways that the text of its operation says: one for each branch, or the one of the choice that is named.
-use Rattle.std.proofs.Common.{◌≡◌, ℕ, zero, suc, ◌<◌, Bool, true, false, List, [], ◌∷◌, map, length, Option, Some, None, refl, sym, ap, ap₂, ◌∙◌, subst, arith}
+use Rattle.std.proofs.Common.{◌≡◌, ℕ, zero, suc, ◌<◌, true, false, List, [], ◌∷◌, map, length, Option, Some, None, refl, sym, ap, ap₂, ◌∙◌, subst, arith}
 use Rattle.std.proofs.lemmas.Bool.{eqb-true}
 use Rattle.std.proofs.lemmas.List.{length-map}
-use Rattle.std.proofs.lemmas.Option.{slice_get-map}
-use Rattle.std.specs.Prelude.{codes, not, option_map, slice_get}
+use Rattle.std.specs.Prelude.{codes, slice_get}
+use Rattle.lc_lemmas.proofs.Lists.{mapped_get, element_within}
+use Rattle.lc_lemmas.proofs.Booleans.{not_true}
 use Rattle.lc_sexp.specs.Trees.{Trees, none, ◌▸◌}
 use Rattle.lc_reading.proofs.Places.{place_below}
 use Rattle.lc_reading.specs.Listed.{place_of}
@@ -28,16 +29,6 @@ use Rattle.lc_outline_text.specs.Sizes.{mark_ways, choice_named, choice_ways}
 use Rattle.lc_outline_text.proofs.BranchesCounted.{AreBranchesOf, AreWaysSaid, IsOperationOf}
 use Rattle.lc_outline_text.proofs.RowsCounted.{Alike}
 use Rattle.lc_outline_text.proofs.UpdatesCounted.{stored_by, marked_columns}
-
--- ---- lists
-
-mapped_there : {X Y : Type 0} (f : X → Y) (xs : List X) (k : ℕ) (x : X) → slice_get xs k ≡ Some x → slice_get (map f xs) k ≡ Some (f x)
-mapped_there f xs k x e = slice_get-map f xs k ∙ ap (option_map f) e
-
-found_there : {X : Type 0} (xs : List X) (k : ℕ) → k < length xs → (x : X) × (slice_get xs k ≡ Some x)
-found_there [] k few = absurd (omega (arith, few))
-found_there (x ∷ xs) zero few = (x, refl)
-found_there (x ∷ xs) (suc k) few = found_there xs k (omega (arith, few))
 
 -- ---- an operation at its place
 
@@ -66,10 +57,6 @@ marked all k (t ▸ ts) (b ∷ bs) h = ap₂ (λ x xs. x ∷ xs) (ap way (marked
   way : List ℕ → C.Way
   way cs = record { asked = C.asked_of k; columns = cs }
 
-not_true : (b : Bool) → not b ≡ true → b ≡ false
-not_true true e = absurd (cc)
-not_true false e = refl
-
 -- all are left if no choice is named
 all_left : (w : Ways) (bs : List Branch) → GoesSo w bs → (by : Chosen Term) → IsInOrder (Some w) by → (has_choices w ≡ false) × (chosen by bs ≡ bs)
 all_left w bs h InOrder (e, g) = let no = not_true (has_choices w) g in (no, h.in_order no)
@@ -92,8 +79,8 @@ taken name terms f bs h e = by_place (place_of (map first_text (choices_in f)) n
   by_place (Some j) at e =
       let fs = choices_in f in
       let few : j < length fs = subst (λ n. j < n) (length-map fs first_text) (place_below (map first_text fs) name j at) in
-      let (form, text) = found_there fs j few in
-      let count = mapped_there parameter_count fs j form text in
+      let (form, text) = element_within fs j few in
+      let count = mapped_get parameter_count fs j form text in
       let due : length terms ≡ parameter_count form = eqb-true (length terms) (parameter_count form) (sym (ap (λ o. is_due o (length terms)) count) ∙ e) in
       record {
         place = j;
@@ -115,7 +102,7 @@ module _ (d : Declarations) (D : Development) (first : first_system D ≡ length
   in_order_said k o few by h =
       let x = at o few in
       let bs = op_branches D.specification.operations o in
-      let known : slice_get (known_of d).ways o ≡ Some (ways_in x.form) = mapped_there ways_in d.operations o x.form x.there in
+      let known : slice_get (known_of d).ways o ≡ Some (ways_in x.form) = mapped_get ways_in d.operations o x.form x.there in
       let (unnamed, left) = all_left (ways_in x.form) bs (goes_so (branches_in x.form) bs x.ways) by (subst (λ w. IsInOrder w by) known h) in
       ap₂ (λ n xs. map (C.mark_way n k) xs) first left ∙ marked d.declared.columns k (branches_in x.form) bs (x.said.branches (none_first (branches_in x.form) bs x.ways unnamed))
       ∙ ap (λ f. mark_ways (stored_by d.declared.columns k) (C.asked_of k) (branches_in (or_nothing f))) (sym x.there)
@@ -125,7 +112,7 @@ module _ (d : Declarations) (D : Development) (first : first_system D ≡ length
       ≡ choice_ways (stored_by d.declared.columns k) (C.asked_of k) (choice_named (form_at d.operations (Some o)) name)
   by_name_said k o few name terms h =
       let x = at o few in
-      let known : slice_get (known_of d).ways o ≡ Some (ways_in x.form) = mapped_there ways_in d.operations o x.form x.there in
+      let known : slice_get (known_of d).ways o ≡ Some (ways_in x.form) = mapped_get ways_in d.operations o x.form x.there in
       let y = taken name terms x.form (op_branches D.specification.operations o) x.ways (subst (λ w. is_choosing w (ByName name terms) ≡ true) known h) in
       let b = y.left.branch in
       let stored : C.columns_of (mark_updates (length d.declared.columns) k b) ≡ stored_by d.declared.columns k (later (later y.form)) = marked_columns d.declared.columns k (later (later y.form)) b (x.said.choices y.place y.form b y.text y.left.there) in

@@ -28,7 +28,7 @@ use Rattle.lc_rider_text.specs.Heads.{kind_of}
 use Rattle.lc_rider_text.specs.Known.{Known, Ways}
 use Rattle.lc_rider_text.specs.Ons.{the_on, on_parts_reading, on_reading, ons_reading}
 use Rattle.lc_rider_text.specs.declared.edges.Edges.{Edges}
-use Rattle.lc_naming.specs.EdgeWords.{edge_word}
+use Rattle.lc_outline.specs.EdgeWords.{edge_word}
 use Rattle.lc_outline_text.specs.Needs.{code_word, acts, lacks_on}
 
 -- ---- instructions by their words
@@ -117,11 +117,11 @@ instruction_word names code n (list (atom w ▸ ts)) =
 
 -- ---- what is done at an edge
 
-edge_text : (t : Tree) → edge_of t ≡ kind_of (text_in t)
+pub edge_text : (t : Tree) → edge_of t ≡ kind_of (text_in t)
 edge_text (atom w) = refl
 edge_text (list ts) = refl
 
-edge_found : (n : ℕ) (o : Option EdgeKind) → Holds (λ kind. o ≡ Some kind) (found_edge n o)
+pub edge_found : (n : ℕ) (o : Option EdgeKind) → Holds (λ kind. o ≡ Some kind) (found_edge n o)
 edge_found n None = tt
 edge_found n (Some kind) = refl
 

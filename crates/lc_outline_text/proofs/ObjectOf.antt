@@ -1,5 +1,5 @@
 -- The object of a development that is read is one.
-use Rattle.std.proofs.Common.{◌≡◌, ℕ, true, map, ap₂, refl}
+use Rattle.std.proofs.Common.{◌≡◌, ℕ, true, map, ap₂}
 use Rattle.lc_sexp.specs.Trees.{Tree, Trees, none, ◌▸◌}
 use Rattle.lc_text.specs.Terms.{pair}
 use Rattle.lc_object.specs.WellFormed.{is_object}
@@ -12,16 +12,11 @@ use Rattle.lc_reading.specs.Readings.{Reading, fine, flawed, both, ended}
 use Rattle.lc_seq.specs.Specification.{Specification}
 use Rattle.lc_spec_text.specs.Specifications as Q
 use Rattle.lc_outline.specs.Development.{Development}
-use Rattle.lc_outline_text.proofs.CodeAlone.{bodies_code}
+use Rattle.lc_outline_text.proofs.CodeAlone.{bodies_code, locals_fine}
 use Rattle.lc_outline_text.specs.Bodies.{bodies_reading}
 use Rattle.lc_outline_text.specs.Declarations.{Declarations, declarations_of}
 use Rattle.lc_outline_text.specs.Developments.{Parts, specification_reading, tables_reading, object_reading, second_form_reading, code_of, development_of, forms_reading}
 use Rattle.lc_outline_text.specs.Sides.{Sides, sides_reading}
-
--- what is read as a value reads as it
-pub reading_is_itself : {X : Type 0} (r : Reading X) → Holds (λ x. r ≡ fine x) r
-reading_is_itself (fine x) = refl
-reading_is_itself (flawed f) = tt
 
 -- the text of a specification, as its object sees it
 abbrev pub IsText : Declarations → ℕ → Tree → O.SpecificationText × Specification → Type 0
@@ -30,7 +25,7 @@ IsText d n t s = O.specification_reading d.declared n t ≡ fine s.0
 pub specification_reading_text : (d : Declarations) (n : ℕ) (t : Tree) → Holds (IsText d n t) (specification_reading d n t)
 specification_reading_text d n t =
     both_holds (λ a. O.specification_reading d.declared n t ≡ fine a) (λ b. Unit {0}) (IsText d n t) pair (O.specification_reading d.declared n t) (Q.specification_reading d.declared.columns n t)
-    (reading_is_itself (O.specification_reading d.declared n t)) (holds_unit (Q.specification_reading d.declared.columns n t)) (λ a b h g. h)
+    (locals_fine (O.specification_reading d.declared n t)) (holds_unit (Q.specification_reading d.declared.columns n t)) (λ a b h g. h)
 
 -- an object's code
 abbrev pub IsObjectOf : Declarations → Sections → ℕ → Parts → Type 0
@@ -41,7 +36,7 @@ object_reading_holds d s n =
     both_holds (λ (p : O.Tables × Sides). O.tables_reading d.declared s n ≡ fine p.0) (λ bs. O.bodies_reading d.declared code_alone n s.bodies.number s.bodies.trees ≡ fine (map code_of bs)) (IsObjectOf d s n) pair
     (tables_reading d s n) (bodies_reading d n s.bodies.number s.bodies.trees)
     (both_holds (λ a. O.tables_reading d.declared s n ≡ fine a) (λ b. Unit {0}) (λ (p : O.Tables × Sides). O.tables_reading d.declared s n ≡ fine p.0) pair (O.tables_reading d.declared s n) (sides_reading d s n)
-    (reading_is_itself (O.tables_reading d.declared s n)) (holds_unit (sides_reading d s n)) (λ a b h g. h))
+    (locals_fine (O.tables_reading d.declared s n)) (holds_unit (sides_reading d s n)) (λ a b h g. h))
     (bodies_code d n s.bodies.number s.bodies.trees) (λ p bs h g. ap₂ (both pair) h g)
 
 ended_fine : {X Y : Type 0} (m : ℕ) (ts : Trees) (r : Reading X) (q : Reading Y) (f : X → Y) → Holds (λ x. q ≡ fine (f x)) r → Holds (λ x. ended m ts q ≡ fine (f x)) (ended m ts r)

@@ -3,9 +3,10 @@ use Rattle.std.proofs.Common.{◌≡◌, ℕ, ◌+◌, Bool, true, false, cond, 
 use Rattle.std.proofs.lemmas.List.{map-append}
 use Rattle.std.specs.List.{list_all, list_any}
 use Rattle.std.specs.Prelude.{codes, nat_lt, slice_get}
+use Rattle.std.proofs.lemmas.Bool.{and_from}
 use Rattle.lc_sexp.specs.TreeCode.{tree_count}
 use Rattle.lc_sexp.specs.Trees.{Tree, Trees, none, ◌▸◌, item_count}
-use Rattle.lc_reading.proofs.Holding.{Holds, holds_unit, both_holds, if_holds, behind_holds, each_holds, and_holds, holds_weaker, and_true}
+use Rattle.lc_reading.proofs.Holding.{Holds, holds_unit, both_holds, if_holds, behind_holds, each_holds, and_holds, holds_weaker}
 use Rattle.lc_reading.specs.Readings.{Reading, fine, flawed, wrong, both}
 use Rattle.lc_reading.specs.declared.pass.Pass.TheVariants.{Shape}
 use Rattle.lc_term.specs.Lists.{Every}
@@ -34,9 +35,11 @@ use Rattle.lc_outline_text.proofs.Needed.{IsOfWord, instruction_word, IsMet, Are
 use Rattle.lc_outline_text.specs.Bodies.{names_in, due_reading, ith_reading, bodies_reading}
 use Rattle.lc_outline_text.specs.Declarations.{Declarations, known_of, own_ways}
 use Rattle.lc_outline_text.specs.Developments.{code_of, outlines_of}
-use Rattle.lc_naming.specs.EdgeWords.{edge_word}
+use Rattle.lc_outline.specs.EdgeWords.{edge_word}
 use Rattle.lc_outline_text.specs.Needs.{code_word, edges_of, acts, lacks_on}
 use Rattle.lc_outline_text.specs.Points.{formulas_in_reading, outline_of, outline_reading, beside}
+use Rattle.lc_term.proofs.Stores.{Every-append}
+use Rattle.lc_outline.proofs.Resolving.{every_weaker}
 
 -- ---- formulas
 
@@ -81,7 +84,7 @@ outline_holds known others own edges i t m ts =
     (and_holds (λ ons. Every (IsOnKnown known own) ons × Every (IsOnLimited known own) ons) (AreFound known.actions (forms_in (codes "on") ts)) (ons_reading known names own edges m ts)
     (and_holds (Every (IsOnKnown known own)) (Every (IsOnLimited known own)) (ons_reading known names own edges m ts) (ons_known known names own edges m ts) (ons_limited known names own edges m ts))
     (all_kinds (λ kind ons. list_any (acts known.actions (edge_word kind)) (forms_in (codes "on") ts) ≡ true → _) (ons_reading known names own edges m ts) (λ kind. on_found known names own edges kind m ts))))
-    (λ fs ons h g. (and_true (list_all formula fs) (list_all on ons) h g.0, g.1))
+    (λ fs ons h g. (and_from (list_all formula fs) (list_all on ons) h g.0, g.1))
 
 never : (o : ℕ) (name : Reading (List ℕ)) (f : _) → Holds (λ q. ⊥) (both (point_of o) name (flawed f))
 never o (fine w) f = tt
@@ -184,14 +187,6 @@ abbrev pub all_points : List (BodyText (Point × Outline)) → List (Point × Ou
 all_points [] = []
 all_points (x ∷ xs) = x.points ++ all_points xs
 
-every_both : {X : Type 0} (P : X → Type 0) (xs ys : List X) → Every P xs → Every P ys → Every P (xs ++ ys)
-every_both P [] ys h g = g
-every_both P (x ∷ xs) ys h g = (h.0, every_both P xs ys h.1 g)
-
-every_weaker : {X : Type 0} (P Q : X → Type 0) → ((x : X) → P x → Q x) → (xs : List X) → Every P xs → Every Q xs
-every_weaker P Q f [] h = tt
-every_weaker P Q f (x ∷ xs) h = (f x h.0, every_weaker P Q f xs h.1)
-
 a_point : (d : Declarations) (b : Body) (o : ℕ) → slice_get d.declared.bodies o ≡ Some b → (p : Point × Outline) → IsPointOf d b o p → IsAPoint d p
 a_point d b o e p h =
     let same = h.operation in
@@ -201,7 +196,7 @@ pub each_point : (d : Declarations) (o : ℕ) (xs : List (BodyText (Point × Out
 each_point d o [] h = tt
 each_point d o (x ∷ xs) h =
     let b = h.0.0 in
-    every_both (IsAPoint d) x.points (all_points xs) (every_weaker (IsPointOf d b o) (IsAPoint d) (a_point d b o h.0.1) x.points h.0.2) (each_point d (o + 1) xs h.1)
+    Every-append (IsAPoint d) x.points (all_points xs) (every_weaker (IsPointOf d b o) (IsAPoint d) (a_point d b o h.0.1) x.points h.0.2) (each_point d (o + 1) xs h.1)
 
 pub code_points : (xs : List (BodyText (Point × Outline))) → points_of (map code_of xs) ≡ map (λ p. p.0) (all_points xs)
 code_points [] = refl

@@ -9,7 +9,6 @@ use Rattle.lc_sexp.specs.Trees.{Trees, none, ◌▸◌}
 use Rattle.lc_reading.specs.Listed.{place_of}
 use Rattle.lc_reading.specs.Words.{is}
 use Rattle.lc_object.specs.Syntax.{Point}
-use Rattle.lc_object_text.proofs.CodeHolds.{same_name}
 use Rattle.lc_object_text.proofs.Holding.{Each, each_form, some_forms, parts_of_all, parts_counted}
 use Rattle.lc_object_text.proofs.ObjectHolds.{SpecificationFits, ObjectFits, code_fits}
 use Rattle.lc_object_text.proofs.SignatureHolds.{IsOperation}
@@ -20,13 +19,14 @@ use Rattle.lc_object_text.specs.Sections.{Sections, parts_in}
 use Rattle.lc_rider_text.specs.Known.{entry_at}
 use Rattle.lc_outline_text.proofs.Fitting.{operation_of_body}
 use Rattle.lc_outline_text.specs.Declarations.{declarations_in, known_of, ways_called, ways_of_body, own_ways}
+use Rattle.lc_text.proofs.Printed.{same_refl}
 
 -- a name that occurs nowhere before has its first place here
 placed_first : (names : List (List ℕ)) (k : ℕ) (w : List ℕ) → slice_get names k ≡ Some w → list_any (is w) (take k names) ≡ false → place_of names w ≡ Some k
 placed_first [] k w e new = absurd (cc)
 placed_first (v ∷ names) zero w e new =
     let same : v ≡ w = cc in
-    subst (λ x. place_of (x ∷ names) w ≡ Some 0) (sym same) (ap (λ b. cond b (Some 0) (option_map suc (place_of names w))) (same_name w))
+    subst (λ x. place_of (x ∷ names) w ≡ Some 0) (sym same) (ap (λ b. cond b (Some 0) (option_map suc (place_of names w))) (same_refl w))
 placed_first (v ∷ names) (suc k) w e new =
     let apart = or_parts (is w v) (list_any (is w) (take k names)) new in
     ap (λ b. cond b (Some 0) (option_map suc (place_of names w))) apart.0 ∙ ap (option_map suc) (placed_first names k w e apart.1)

@@ -27,7 +27,8 @@ use Rattle.lc_outline_text.specs.Points.{formulas_in_reading, outline_of, outlin
 use Rattle.lc_outline_text.specs.Sizes.{assert_count, ons_of}
 use Rattle.lc_outline_text.proofs.InstructionsCounted.{IsCoded, instruction_said}
 use Rattle.lc_outline_text.proofs.RidersCounted.{IsOnOf, ons_said}
-use Rattle.lc_outline_text.proofs.RowsCounted.{Alike, Along, placed_along, each_count, IsForm, some_alike}
+use Rattle.lc_outline_text.proofs.RowsCounted.{Alike, Along, placed_along, IsForm, some_alike}
+use Rattle.lc_spec_text.proofs.Ways.{each_counted}
 
 -- ---- a point
 
@@ -41,7 +42,7 @@ pub record IsPointOf (d : Declarations) (b : Body) (o : ℕ) (ts : Trees) (p : P
 pub formulas_said : (word : List ℕ) (names : Names) (n : ℕ) (t : Tree) → Holds (λ fs. length fs ≡ tree_count (parts_in word t)) (formulas_in_reading word names n t)
 formulas_said word names n t =
     holds_weaker _ (λ fs. length fs ≡ tree_count (parts_in word t)) (formulas_in_reading word names n t) (λ fs h. h.1)
-    (form_holds (λ ts (fs : List Formula). length fs ≡ tree_count ts) word (λ n. each_reading (formula_reading names [])) n t (λ n m ts. each_count (formula_reading names []) m ts))
+    (form_holds (λ ts (fs : List Formula). length fs ≡ tree_count ts) word (λ n. each_reading (formula_reading names [])) n t (λ n m ts. each_counted (formula_reading names []) m ts))
 
 abbrev IsOutlineOf : Declarations → ℕ → Tree → Trees → Outline → Type 0
 IsOutlineOf d o t ts x = (length x.asserts ≡ tree_count (parts_in (codes "assert") t)) × Alike (IsOnOf d o) (forms_in (codes "on") ts) x.ons

@@ -43,11 +43,12 @@ use Rattle.lc_rider_text.specs.declared.edges.Edges.{Edges}
 use Rattle.lc_outline.specs.Sizes as C
 use Rattle.lc_outline.specs.Sizes.{columns_of}
 use Rattle.lc_outline_text.specs.Declarations.{Declarations, known_of, own_ways, branches_in, form_at}
-use Rattle.lc_naming.specs.EdgeWords.{edge_word}
+use Rattle.lc_outline.specs.EdgeWords.{edge_word}
 use Rattle.lc_outline_text.specs.Sizes as Z
 use Rattle.lc_outline_text.specs.Sizes.{column_named, columns_settled, columns_noted, mark_ways, choice_named, choice_ways, on_of}
 use Rattle.lc_outline_text.proofs.RowsCounted.{Alike, IsForm}
 use Rattle.lc_outline_text.proofs.UpdatesCounted.{IsColumn, stored_by, update_by_test, update_said}
+use Rattle.lc_outline_text.proofs.Needed.{edge_text, edge_found}
 
 -- the branches and the actions of a development store in the columns that the declarations name
 pub record Agrees (d : Declarations) (D : Development) : Type 0 where
@@ -272,14 +273,6 @@ call_said d names n (atom w) = tt
 call_said d names n (list none) = tt
 call_said d names n (list (t ▸ ts)) =
     both_holds (λ a. place_of d.actions (text_in t) ≡ Some a) (λ xs. Unit {0}) (λ (p : ℕ × List Term). place_of d.actions (text_in t) ≡ Some p.0) pair (action_use d (n + 1) t) _ (action_said d (n + 1) t) (holds_unit _) (λ a xs h u. h)
-
-edge_text : (t : Tree) → edge_of t ≡ kind_of (text_in t)
-edge_text (atom w) = refl
-edge_text (list ts) = refl
-
-edge_found : (n : ℕ) (o : Option EdgeKind) → Holds (λ kind. o ≡ Some kind) (found_edge n o)
-edge_found n None = tt
-edge_found n (Some kind) = refl
 
 parts_said : (d : Declarations) (o : ℕ) (names : Names) (edges : Edges) (n m : ℕ) (ts : Trees) → Holds (IsOnOf d o ts) (on_parts_reading (known_of d) names (own_ways d o) edges n m ts)
 parts_said d o names edges n m none = tt

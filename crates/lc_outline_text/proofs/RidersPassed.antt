@@ -1,14 +1,14 @@
 -- Riders one by one, by the columns that are stored in on the ways past them.
-use Rattle.std.proofs.Common.{◌≡◌, ℕ, zero, suc, ◌+◌, ◌*◌, ◌<◌, ◌≤◌, Bool, true, false, List, [], ◌∷◌, ◌++◌, map, length, drop, get_or, Some, refl, sym, ap, ap₂, ◌∙◌, append-nil, arith}
+use Rattle.std.proofs.Common.{◌≡◌, ℕ, zero, suc, ◌+◌, ◌*◌, ◌<◌, ◌≤◌, Bool, true, false, List, [], ◌∷◌, ◌++◌, length, drop, get_or, Some, refl, sym, ap, ap₂, ◌∙◌, append-nil, arith}
 use Rattle.std.proofs.Math.Nat.{mul_assoc}
 use Rattle.std.proofs.Math.Seq.{drop-cons}
 use Rattle.lc_outline_text.specs.declared.riders.Rider.{Rider}
 use Rattle.lc_outline.specs.Sizes.{Way, no_way, different, way_count}
-use Rattle.lc_outline_text.specs.Paths.{stands, only_way, common_way, leaves_choice, branching}
+use Rattle.lc_outline_text.specs.Paths.{stands, common_way, leaves_choice, branching}
 use Rattle.lc_outline_text.proofs.Counting.{product_capped}
 use Rattle.lc_outline_text.proofs.Different.{same_different}
 use Rattle.lc_outline_text.proofs.Paths.{same_paths, set_apart}
-use Rattle.lc_outline_text.specs.StoredView.{row_way, none_stored, ways_of_deed, ways_of_rider, ways_of_riders}
+use Rattle.lc_outline_text.specs.StoredView.{none_stored, ways_of_deed, ways_of_rider, ways_of_riders}
 use Rattle.lc_outline_text.specs.Views.{capped, count_cap}
 
 -- ---- one rider after another

@@ -4,7 +4,7 @@ use Rattle.std.specs.Prelude.{slice_get}
 use Rattle.lc_sexp.specs.Parts.{fits, form_fit}
 use Rattle.lc_sexp.specs.TreeCode.{tree_count}
 use Rattle.lc_sexp.specs.Trees.{Tree, Trees, none, ◌▸◌, item_count}
-use Rattle.lc_reading.proofs.Holding.{Holds, both_holds, holds_weaker}
+use Rattle.lc_reading.proofs.Holding.{Holds, both_holds, holds_unit}
 use Rattle.lc_reading.specs.Readings.{Reading, fine, flawed}
 use Rattle.lc_reading.specs.Rows.{each_reading, counted_reading, declared_reading}
 use Rattle.lc_object_text.specs.Rows.{cons, placed_reading}
@@ -46,12 +46,6 @@ Along P none (x ∷ xs) = ⊥
 Along P (t ▸ ts) [] = ⊥
 Along P (t ▸ ts) (x ∷ xs) = P t x × Along P ts xs
 
-pub along_count : {X : Type 0} (P : Tree → X → Type 0) (ts : Trees) (xs : List X) → Along P ts xs → length xs ≡ tree_count ts
-along_count P none [] h = refl
-along_count P none (x ∷ xs) h = absurd h
-along_count P (t ▸ ts) [] h = absurd h
-along_count P (t ▸ ts) (x ∷ xs) h = ap suc (along_count P ts xs h.1)
-
 pub each_along : {X : Type 0} (P : Tree → X → Type 0) (read : ℕ → Tree → Reading X) → ((n : ℕ) (t : Tree) → Holds (P t) (read n t)) → (m : ℕ) (ts : Trees) → Holds (Along P ts) (each_reading read m ts)
 each_along P read h m none = tt
 each_along P read h m (t ▸ ts) =
@@ -68,21 +62,12 @@ declared_along P read declares h before m none = tt
 declared_along P read declares h before m (t ▸ ts) =
     both_holds (P t) (Along P ts) (Along P (t ▸ ts)) (λ x xs. x ∷ xs) (read before m t) _ (h before m t) (declared_along P read declares h (before ++ declares t) (m + item_count t) ts) (λ x xs p q. (p, q))
 
--- as many as items
-any : {X : Type 0} (r : Reading X) → Holds (λ x. Unit {0}) r
-any (fine x) = tt
-any (flawed f) = tt
-
-pub each_count : {X : Type 0} (read : ℕ → Tree → Reading X) (m : ℕ) (ts : Trees) → Holds (λ xs. length xs ≡ tree_count ts) (each_reading read m ts)
-each_count read m ts =
-    holds_weaker (Along (λ t x. Unit {0}) ts) (λ xs. length xs ≡ tree_count ts) (each_reading read m ts) (along_count (λ t x. Unit {0}) ts) (each_along (λ t x. Unit {0}) read (λ n t. any (read n t)) m ts)
-
 pub counted_count : {X : Type 0} (read : ℕ → Tree → Reading X) (n k m : ℕ) (ts : Trees) → Holds (λ xs. length xs ≡ tree_count ts) (counted_reading read n k m ts)
 counted_count read n zero m none = refl
 counted_count read n (suc k) m none = tt
 counted_count read n zero m (t ▸ ts) = tt
 counted_count read n (suc k) m (t ▸ ts) =
-    both_holds (λ x. Unit {0}) (λ xs. length xs ≡ tree_count ts) (λ xs. length xs ≡ suc (tree_count ts)) (λ x xs. x ∷ xs) (read m t) (counted_reading read n k (m + item_count t) ts) (any (read m t)) (counted_count read n k (m + item_count t) ts) (λ x xs u e. ap suc e)
+    both_holds (λ x. Unit {0}) (λ xs. length xs ≡ tree_count ts) (λ xs. length xs ≡ suc (tree_count ts)) (λ x xs. x ∷ xs) (read m t) (counted_reading read n k (m + item_count t) ts) (holds_unit (read m t)) (counted_count read n k (m + item_count t) ts) (λ x xs u e. ap suc e)
 
 -- lists that begin with a word, by what comes after the word
 abbrev pub IsForm : {X : Type 0} → List ℕ → (Trees → X → Type 0) → Tree → X → Type 0

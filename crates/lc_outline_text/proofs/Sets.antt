@@ -3,6 +3,7 @@ use Rattle.std.proofs.Common.{◌≡◌, ℕ, ◌+◌, ◌<◌, ◌≤◌, ◌==
 use Rattle.std.proofs.lemmas.Bool.Decides.{nat_tests}
 use Rattle.std.proofs.lemmas.List.{length-append, map-append, map_more}
 use Rattle.std.proofs.lemmas.List.Folds.{list_any-append}
+use Rattle.std.proofs.lemmas.Bool.{eq-eqb}
 use Rattle.lc_base.specs.declared.ids.ColId.{ColId}
 use Rattle.lc_object.specs.View.{columns_of}
 use Rattle.lc_outline.specs.Sizes.{different}
@@ -16,17 +17,14 @@ use Rattle.lc_outline_text.proofs.Different.{absent, stands_again, different_mor
 one_more : (xs : List ColId) (x : ColId) → columns_of (xs ++ x ∷ []) ≡ columns_of xs ++ x.0 ∷ []
 one_more xs x = map-append (λ (c : ColId). c.0) xs (x ∷ [])
 
-is_round : (m n : ℕ) → m ≡ n → (m == n) ≡ true
-is_round m n h = grind (arith, nat_tests)
-
 -- it is in it already
 pub in_again : (s : ColumnSet) (c : ℕ) → IsSet s → round_of s.rounds c ≡ s.round → stands (listed_in s) ≡ stands (listed_in s ++ c ∷ [])
-in_again s c h is = sym (stands_again (listed_in s) c (sym (h.marked c) ∙ is_round (round_of s.rounds c) s.round is))
+in_again s c h is = sym (stands_again (listed_in s) c (sym (h.marked c) ∙ eq-eqb (round_of s.rounds c) s.round is))
 
 marked_by : (c k round r : ℕ) (ls : List ℕ) (b : Bool) → (k == c) ≡ b → (r == round) ≡ stands ls k → (cond b round r == round) ≡ stands (ls ++ c ∷ []) k
 marked_by c k round r ls true e h =
     let here : (c == k) ≡ true = grind (arith, nat_tests) in
-    is_round round round refl ∙ sym (or_true (stands ls k)) ∙ ap (λ b. stands ls k || (b || false)) (sym here) ∙ sym (list_any-append (λ j. j == k) ls (c ∷ [])) where
+    eq-eqb round round refl ∙ sym (or_true (stands ls k)) ∙ ap (λ b. stands ls k || (b || false)) (sym here) ∙ sym (list_any-append (λ j. j == k) ls (c ∷ [])) where
       or_true : (b : Bool) → (b || (true || false)) ≡ true
       or_true true = refl
       or_true false = refl

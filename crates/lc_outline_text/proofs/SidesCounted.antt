@@ -34,8 +34,9 @@ use Rattle.lc_outline_text.specs.Points.{formulas_in_reading}
 use Rattle.lc_outline_text.specs.Sides.{auxiliaries_reading, actions_reading, invariant_reading, conditions_reading, Sides, sides_of, sides_reading}
 use Rattle.lc_outline_text.specs.Sizes.{columns_stored, columns_acted}
 use Rattle.lc_outline_text.proofs.PointsCounted.{formulas_said}
-use Rattle.lc_outline_text.proofs.RowsCounted.{Alike, alike_at, each_count}
+use Rattle.lc_outline_text.proofs.RowsCounted.{Alike, alike_at}
 use Rattle.lc_outline_text.proofs.UpdatesCounted.{updates_said}
+use Rattle.lc_spec_text.proofs.Ways.{each_counted}
 
 -- ---- actions
 
@@ -95,7 +96,7 @@ invariant_said : (d : Declarations) (n : ℕ) (t : Tree) → Holds (λ cs. lengt
 invariant_said d n t =
     let read = conjunct_reading (beside_names d.declared.columns None) in
     holds_weaker _ (λ cs. length cs ≡ tree_count (parts_in (codes "invariant") t)) (invariant_reading d n t) (λ cs h. h.1)
-    (form_holds (λ ts (cs : List Conjunct). length cs ≡ tree_count ts) (codes "invariant") (λ n. each_reading read) n t (λ n m ts. each_count read m ts))
+    (form_holds (λ ts (cs : List Conjunct). length cs ≡ tree_count ts) (codes "invariant") (λ n. each_reading read) n t (λ n m ts. each_counted read m ts))
 
 abbrev AreConditionsOf : Trees → List Conjunct × List Formula → Type 0
 AreConditionsOf ts p = (length p.0 ≡ tree_count (parts_in_first (codes "invariant") ts)) × (length p.1 ≡ tree_count (parts_in_first (codes "idle") (later ts)))

@@ -1,9 +1,10 @@
 -- What is stored by actions, branches and choices, at their places.
 use Rattle.std.proofs.Common.{◌≡◌, ℕ, zero, suc, ◌+◌, ◌-◌, ◌<◌, ◌≤◌, Bool, true, false, List, [], ◌∷◌, ◌++◌, map, length, take, drop, get_or, Option, Some, None, refl, sym, ap, ◌∙◌, arith}
 use Rattle.std.proofs.lemmas.List.{map-append}
-use Rattle.std.proofs.lemmas.Option.{slice_get-map, slice_get_read}
+use Rattle.std.proofs.lemmas.Option.{slice_get-map}
 use Rattle.std.specs.Prelude.{codes, option_map, slice_get, slice_index_or, Vec}
 use Rattle.std.specs.declared.alloc.Global.{Global}
+use Rattle.lc_lemmas.proofs.Lists.{seen_at}
 use Rattle.lc_base.specs.declared.ids.ColId.{ColId}
 use Rattle.lc_sexp.specs.Trees.{Trees, none, ◌▸◌}
 use Rattle.lc_object.specs.View.{columns_of}
@@ -70,10 +71,6 @@ chosen_each columns (t ∷ ts) = ap (λ l. by_choices columns (choices_in t) ∷
 
 -- ---- the choice of a name
 
--- an element of a list that is a view of another one
-seen_there : {X Y : Type 0} (f : X → Y) (xs : List X) (ys : List Y) (k : ℕ) (x : X) → map f xs ≡ ys → k < length xs → x ≡ get_or xs k x → slice_get ys k ≡ Some (f x)
-seen_there f xs ys k x e few at = ap (λ l. slice_get l k) (sym e) ∙ slice_get-map f xs k ∙ ap (option_map f) (slice_get_read xs (length xs) k x refl few at)
-
 names_in : (o : Option Trees) (ways : K.Ways) → option_map ways_in o ≡ Some ways → ways.choices ≡ map first_text (choices_in (or_nothing o))
 names_in None ways e = absurd (cc)
 names_in (Some f) ways e =
@@ -83,7 +80,7 @@ names_in (Some f) ways e =
 -- the names of an operation's choices are those in the ways in which it goes
 pub names_there : (operations : List Trees) (ways : List Ways) (k : ℕ) (w : Ways) → map ways_view ways ≡ map ways_in operations → k < length ways → w ≡ get_or ways k w
     → listed w.choices ≡ map first_text (choices_in (form_at operations (Some k)))
-names_there operations ways k w counted few at = names_in (slice_get operations k) (ways_view w) (sym (slice_get-map ways_in operations k) ∙ seen_there ways_view ways (map ways_in operations) k w counted few at)
+names_there operations ways k w counted few at = names_in (slice_get operations k) (ways_view w) (sym (slice_get-map ways_in operations k) ∙ seen_at ways_view ways (map ways_in operations) k w counted few at)
 
 -- the one row at a choice's place
 one_row : (asked : ℕ) (g : Trees → ℕ → Bool) (rows : List (Vec ColId Global)) (choices : List Trees) (k : ℕ) → rows_kept rows ≡ map g (map behind_parameters choices) → k < length rows

@@ -1,7 +1,7 @@
 -- The columns in which updates store, by their texts.
-use Rattle.std.proofs.Common.{◌≡◌, ℕ, suc, ◌+◌, Bool, true, false, cond, List, [], ◌∷◌, ◌++◌, append_assoc, take, length, Option, Some, None, refl, sym, ap, ap₂, ◌∙◌}
+use Rattle.std.proofs.Common.{◌≡◌, ℕ, ◌+◌, Bool, true, List, [], ◌∷◌, ◌++◌, append_assoc, take, length, Option, Some, None, refl, sym, ap, ap₂, ◌∙◌}
 use Rattle.std.proofs.lemmas.List.{map-append}
-use Rattle.std.specs.Prelude.{pos, option_map, if◌then◌else◌}
+use Rattle.std.specs.Prelude.{pos, if◌then◌else◌}
 use Rattle.lc_base.specs.NameText.{is_name}
 use Rattle.lc_sexp.specs.TreeCode.{tree_count}
 use Rattle.lc_sexp.specs.Trees.{Tree, Trees, atom, list, none, ◌▸◌, item_count}
@@ -10,7 +10,7 @@ use Rattle.lc_reading.specs.Listed.{place_of}
 use Rattle.lc_reading.specs.Naming.{within, spelled_reading}
 use Rattle.lc_reading.specs.Readings.{Reading, fine, wrong, mapped, three_of}
 use Rattle.lc_reading.specs.Rows.{each_reading}
-use Rattle.lc_reading.specs.Words.{is, is_long}
+use Rattle.lc_reading.specs.Words.{is_long}
 use Rattle.lc_reading.specs.declared.pass.Pass.TheVariants.{Shape, Bound, Unknown}
 use Rattle.lc_term.specs.Said.{at_client}
 use Rattle.lc_term.specs.Syntax.{Term, Number}
@@ -27,6 +27,7 @@ use Rattle.lc_rider_text.specs.Updates.{the_update, listed_update_reading}
 use Rattle.lc_seq.specs.Specification.{Branch}
 use Rattle.lc_outline.specs.Sizes.{columns_of}
 use Rattle.lc_outline_text.specs.Sizes.{listed, column_named, columns_stored, columns_settled, columns_noted}
+use Rattle.lc_reading.proofs.Places.{placed_before}
 
 -- the column of a name
 abbrev pub IsColumn : List (List ℕ) → List ℕ → ℕ → Type 0
@@ -91,16 +92,8 @@ updates_said known names m (t ▸ ts) =
 abbrev pub Leads : List (List ℕ) → List (List ℕ) → Type 0
 Leads own all = (w : List ℕ) (k : ℕ) → place_of own w ≡ Some k → column_named all w ≡ k ∷ []
 
-place_first : (own others : List (List ℕ)) (w : List ℕ) (k : ℕ) → place_of own w ≡ Some k → place_of (own ++ others) w ≡ Some k
-place_first [] others w k e = cc
-place_first (v ∷ own) others w k e = by_first (is w v) k (place_of own w) (place_of (own ++ others) w) (place_first own others w) e where
-  by_first : (b : Bool) (k : ℕ) (o p : Option ℕ) → ((j : ℕ) → o ≡ Some j → p ≡ Some j) → cond b (Some 0) (option_map suc o) ≡ Some k → cond b (Some 0) (option_map suc p) ≡ Some k
-  by_first true k o p f e = e
-  by_first false k None p f e = absurd (cc)
-  by_first false k (Some j) p f e = ap (option_map suc) (f j refl) ∙ e
-
 pub own_names_lead : (own others : List (List ℕ)) → Leads own (own ++ others)
-own_names_lead own others w k e = ap (λ o. listed (place_or (length (own ++ others)) o (system_place w))) (place_first own others w k e)
+own_names_lead own others w k e = ap (λ o. listed (place_or (length (own ++ others)) o (system_place w))) (placed_before own others w k e)
 
 -- ---- marks
 

@@ -1,5 +1,5 @@
 -- The sizes of a development come to as many conditions as are counted from the forms that say it.
-use Rattle.std.proofs.Common.{◌≡◌, ℕ, ◌+◌, ◌*◌, ◌≤◌, List, ◌++◌, map, length, append_assoc, refl, sym, ap, ap₂, ◌∙◌, subst, arith}
+use Rattle.std.proofs.Common.{◌≡◌, ℕ, ◌+◌, ◌*◌, ◌≤◌, List, ◌++◌, map, length, append_assoc, sym, ap, ap₂, ◌∙◌, subst, arith}
 use Rattle.std.proofs.lemmas.List.{length-map}
 use Rattle.std.specs.Prelude.{codes, slice_get, sum_by}
 use Rattle.lc_sexp.specs.Parts.{fits, form_fit}
@@ -17,7 +17,7 @@ use Rattle.lc_object_text.proofs.ArrayHolds.{HaveSpans, spans_have}
 use Rattle.lc_object_text.proofs.Holding.{Each}
 use Rattle.lc_object_text.specs.ObjectNames.{first_text, later, call_of, parts_in_first, names_of_columns, columns_of_arrays, spans_from, bodies_due, abstracts_in, arrays_in, auxiliaries_in, operations_in, declared_in_sections}
 use Rattle.lc_object_text.specs.Objects as O
-use Rattle.lc_object_text.specs.Sections.{Sections, items_of_fit, items_in, behind_item, behind_first, parts_in, some_forms_in, sections_of}
+use Rattle.lc_object_text.specs.Sections.{Sections, items_of_fit, items_in, behind_first, parts_in, some_forms_in, sections_of}
 use Rattle.lc_outline.specs.Development.{Development, Outline}
 use Rattle.lc_outline.specs.Sizes.{edge_count, edge_sizes, assert_sizes, count, sizes_of}
 use Rattle.lc_outline_text.proofs.Assembled.{SpecificationHolds, specification_of_text, ObjectHolds, object_of_text, fits_declared}
@@ -38,16 +38,9 @@ use Rattle.lc_outline_text.proofs.RowsCounted.{Alike, alike_length}
 use Rattle.lc_outline_text.proofs.SidesCounted.{IsActionOf, AreSidesOf, sides_said, acted_said}
 use Rattle.lc_outline_text.proofs.SumsCounted.{over, point_edges, edges_sum, places_sum, points_stand}
 use Rattle.lc_outline_text.proofs.UpdatesCounted.{Leads, own_names_lead}
+use Rattle.lc_object_text.proofs.ObjectHolds.{behind_one, behind_two}
 
 -- ---- the specification
-
-behind_one : (n : ℕ) (ts : Trees) → (behind_item n ts).trees ≡ later ts
-behind_one n none = refl
-behind_one n (t ▸ ts) = refl
-
-behind_two : (n : ℕ) (ts : Trees) → (behind_first (behind_item n ts)).trees ≡ later (later ts)
-behind_two n none = refl
-behind_two n (t ▸ ts) = behind_one (n + item_count t) ts
 
 -- its operations are those of the section
 abbrev IsSpecified : Sections → O.SpecificationText × Specification → Type 0

@@ -4,7 +4,7 @@ use Rattle.std.specs.List.{list_any}
 use Rattle.lc_sexp.specs.Trees.{Tree, Trees, ◌▸◌}
 use Rattle.lc_object.specs.declared.instr.EdgeKind.{EdgeKind}
 use Rattle.lc_object.specs.declared.instr.EdgeKind.TheVariants.{Next, Then, Else}
-use Rattle.lc_naming.specs.EdgeWords.{edge_word}
+use Rattle.lc_outline.specs.EdgeWords.{edge_word}
 use Rattle.lc_object_text.specs.ObjectNames.{text_in, first_text, items_within}
 use Rattle.lc_reading.specs.Reserved.{is_action_name}
 use Rattle.lc_reading.specs.Words.{is}

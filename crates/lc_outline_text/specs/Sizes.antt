@@ -13,7 +13,7 @@ use Rattle.lc_object_text.specs.Sections.{Sections, parts_in, forms_in}
 use Rattle.lc_rider_text.specs.Scopes.{column_place}
 use Rattle.lc_outline.specs.Sizes.{Way, no_way, way_count}
 use Rattle.lc_outline_text.specs.Declarations.{Declarations, branches_in, choices_in, form_at}
-use Rattle.lc_naming.specs.EdgeWords.{edge_word}
+use Rattle.lc_outline.specs.EdgeWords.{edge_word}
 use Rattle.lc_outline_text.specs.Needs.{goes_next, branches_off, stores}
 
 -- ---- columns that are stored in

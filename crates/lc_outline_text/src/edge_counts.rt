@@ -18,9 +18,9 @@ use crate::path_counts::path_conditions;
 use crate::stored::{Stored, columns_acted};
 use crate::ways::riders_in;
 use lc_base::OutOfMemory;
-use lc_naming::edge_word;
 use lc_object::EdgeKind;
 use lc_object_text::{Body, behind_first, first_text, items_in_first, next_form, within_first};
+use lc_outline::edge_word;
 use lc_sexp::Cursor;
 use std::alloc::Global;
 

@@ -10,9 +10,9 @@ ghost use Rattle.lc_reading.specs.TableView.{listed};
 ghost use Rattle.lc_reading.specs.Words.{is};
 ghost use Rattle.lc_outline_text.specs.Needs.{code_word, goes_next, branches_off, edges_of, stores, rides, acts, lacks_at, lacks_on};
 
-use lc_naming::edge_word;
 use lc_object::EdgeKind;
 use lc_object_text::{first_text, next_form};
+use lc_outline::edge_word;
 use lc_reading::{NameTable, Part, behind_word, three, two};
 use lc_rider_text::Edges;
 use lc_sexp::{Cursor, Item};

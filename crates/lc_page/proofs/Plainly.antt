@@ -3,7 +3,7 @@ use Rattle.std.proofs.Common.{◌≡◌, ℕ, ◌==◌, Bool, true, false, ◌||
 use Rattle.std.specs.Prelude.{if◌then◌else◌, IfOk}
 use Rattle.std.specs.declared.alloc.Global.{Global}
 use Rattle.lc_base.specs.declared.memory.OutOfMemory.{OutOfMemory}
-use Rattle.lc_hist.specs.History.{Event, Entry}
+use Rattle.lc_history.specs.History.{Event, Entry}
 use Rattle.lc_hist.specs.JsonWritten.{history_text}
 use Rattle.lc_seq.specs.Specification.{Operation}
 use Rattle.lc_page.specs.Pages.{IsPage, data_text, page_with}

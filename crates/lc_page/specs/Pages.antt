@@ -1,6 +1,6 @@
 -- Pages of histories.
 use Rattle.std.specs.Prelude.{◌≡◌, ℕ, false, List, ◌++◌, codes}
-use Rattle.lc_hist.specs.History.{Event, Entry}
+use Rattle.lc_history.specs.History.{Event, Entry}
 use Rattle.lc_hist.specs.JsonWritten.{history_text}
 use Rattle.lc_seq.specs.Specification.{Operation}
 use Rattle.lc_page.specs.Unmarked.{has_markup, unmarked}

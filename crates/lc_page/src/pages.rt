@@ -1,7 +1,7 @@
 //! The page of a history.
 ghost use Rattle.std.specs.Prelude.{◌≡◌, IfOk};
-ghost use Rattle.lc_hist.specs.Histories.{events_in};
-ghost use Rattle.lc_hist.specs.JsonHistories.{entries_view};
+ghost use Rattle.lc_history.specs.Histories.{events_in};
+ghost use Rattle.lc_history.specs.View.{entries_view};
 ghost use Rattle.lc_seq.specs.TextView.{specification_of};
 ghost use Rattle.lc_page.specs.Pages.{IsPage, page_with};
 ghost use Rattle.lc_page.specs.Unmarked.{unmarked};
@@ -11,7 +11,8 @@ use crate::head::HEAD;
 use crate::said::said_of;
 use crate::tail::TAIL;
 use lc_base::OutOfMemory;
-use lc_hist::{Done, History, history_to_json};
+use lc_hist::history_to_json;
+use lc_history::{Done, History};
 use lc_seq::{Pick, TextCall, TextSpec};
 use std::alloc::Global;
 

@@ -1,7 +1,7 @@
 //! What a page says of a history and its order beside these, as JSON.
 use crate::states::stores_of;
 use lc_base::OutOfMemory;
-use lc_hist::{Done, History, JudgeFault, judge};
+use lc_history::{Done, History, JudgeFault, judge};
 use lc_seq::{Column, Pick, TextCall, TextSpec};
 use lc_term::Write;
 use std::alloc::Global;

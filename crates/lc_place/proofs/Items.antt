@@ -1,7 +1,7 @@
 -- Where the item of a number begins.
 use Rattle.std.proofs.Common.{◌≡◌, ℕ, ◌+◌, ◌-◌, ◌≤◌, ◌<◌, Bool, true, false, ◌||◌, ◌&&◌, not, List, ◌++◌, length, take, drop, refl, sym, ap, ◌∙◌, arith, take-append-drop, inl, inr}
 use Rattle.std.specs.Prelude.{◌==◌}
-use Rattle.std.proofs.lemmas.Bool.{cases_Bool}
+use Rattle.std.proofs.lemmas.Bool.{cases_Bool, or_parts}
 use Rattle.std.proofs.lemmas.Bool.Decides.{nat_tests}
 use Rattle.lc_sexp.specs.Text.{class_of, is_Letter, begins_word, lexed}
 use Rattle.lc_sexp.specs.Reads.{text_of}
@@ -51,12 +51,8 @@ unit_at r w h = elim (cases_Bool (r == 40)) [
   by_parts true true a b k = absurd (cc)
   by_parts false v a b k = absurd (cc)
 
-or_false : (a b : Bool) → (a || b) ≡ false → (a ≡ false) × (b ≡ false)
-or_false false b h = (refl, h)
-or_false true b h = absurd (cc)
-
 unit_not : (r : ℕ) (w : Bool) → is_begun r w ≡ false → unit_of r w ≡ 0
-unit_not r w h = let p = or_false (r == 40) (is_Letter (class_of r) && not w) h in unit_none r w p.0 p.1
+unit_not r w h = let p = or_parts (r == 40) (is_Letter (class_of r) && not w) h in unit_none r w p.0 p.1
 
 count_step : (bytes : List ℕ) (i r : ℕ) (next w : Bool) → IsStep bytes i r next → ends_in false (take i (text_of bytes)) ≡ w
     → items_among (lexed (take (i + 1) (text_of bytes))) ≡ items_among (lexed (take i (text_of bytes))) + unit_of r w

@@ -1,12 +1,13 @@
 -- How far an item goes.
-use Rattle.std.proofs.Common.{◌≡◌, ℕ, ◌+◌, ◌≤◌, ◌<◌, Bool, true, false, ◌||◌, inl, inr, List, [], ◌∷◌, length, get_or, take, drop, refl, sym, ap, ◌∙◌, subst, arith}
+use Rattle.std.proofs.Common.{◌≡◌, ℕ, ◌+◌, ◌≤◌, ◌<◌, true, false, inl, inr, List, [], ◌∷◌, length, get_or, take, drop, refl, sym, ap, ◌∙◌, subst, arith}
 use Rattle.std.proofs.lemmas.Bool.{cases_eq, and_from}
 use Rattle.std.proofs.lemmas.List.{drop_more}
 use Rattle.std.proofs.lemmas.List.Folds.{list_all-append}
 use Rattle.lc_sexp.specs.Text.{class_of, is_Letter, are_letters, begins_word, uncommented}
 use Rattle.lc_sexp.specs.Reads.{text_of}
-use Rattle.lc_place.specs.Items.{begins_list, begins_item, IsWordOf}
-use Rattle.lc_place.proofs.Texts.{step_text, uncommented_plain_byte, letter_not_semi, word_ends, length-text, read_all, bracket_first, bracket_only}
+use Rattle.lc_place.specs.Items.{IsWordOf}
+use Rattle.lc_place.proofs.Texts.{step_text, word_ends, length-text, read_all}
+use Rattle.lc_sexp.proofs.Runs.{uncommented_plain_byte, letter_plain}
 
 -- letters that were read up to an offset
 pub record IsWordSoFar (bytes : List ℕ) (i : ℕ) : Type 0 where
@@ -16,7 +17,7 @@ pub record IsWordSoFar (bytes : List ℕ) (i : ℕ) : Type 0 where
 pub word_more : (bytes : List ℕ) (i : ℕ) → i < length bytes → is_Letter (class_of (get_or bytes i 0)) ≡ true → IsWordSoFar bytes i → IsWordSoFar bytes (i + 1)
 word_more bytes i lt h w =
     let b : ℕ = get_or bytes i 0 in
-    let s = step_text bytes i 0 b false false lt w.text (λ rest. uncommented_plain_byte b rest (letter_not_semi b h)) in
+    let s = step_text bytes i 0 b false false lt w.text (λ rest. uncommented_plain_byte b rest (letter_plain b h)) in
     record {
       text = s.rest;
       letters = ap are_letters s.read ∙ list_all-append (λ x. is_Letter (class_of x)) (take i (text_of bytes)) (b ∷ []) ∙ and_from _ _ w.letters (and_from _ _ h refl);

@@ -1,12 +1,11 @@
 -- How the text of a file is read, byte by byte.
-use Rattle.std.proofs.Common.{◌≡◌, ◌≢◌, ℕ, ◌+◌, ◌≤◌, ◌<◌, Bool, true, false, ◌||◌, cond, List, [], ◌∷◌, ◌++◌, length, get_or, take, drop, refl, sym, ap, ◌∙◌, arith, length-drop}
+use Rattle.std.proofs.Common.{◌≡◌, ℕ, ◌+◌, ◌≤◌, ◌<◌, Bool, true, false, ◌||◌, cond, List, [], ◌∷◌, ◌++◌, length, get_or, take, drop, refl, sym, ap, ◌∙◌, arith, length-drop}
 use Rattle.std.specs.Prelude.{◌==◌}
-use Rattle.std.proofs.lemmas.Bool.Decides.{nat_tests}
 use Rattle.std.proofs.lemmas.List.{drop_more, take_more, drop_all, take_all}
 use Rattle.lc_sexp.specs.Text.{class_of, is_Letter, begins_word, uncommented}
 use Rattle.lc_sexp.specs.Reads.{text_of}
 use Rattle.lc_sexp.proofs.Faults.{length-uncommented}
-use Rattle.lc_place.specs.Items.{begins_list, begins_item}
+use Rattle.lc_place.specs.Items.{begins_item}
 
 pub length-text : (bytes : List ℕ) → length (text_of bytes) ≡ length bytes
 length-text bytes = length-uncommented false bytes
@@ -37,20 +36,6 @@ step_text bytes i d r c next lt e step =
 pub read_all : (bytes : List ℕ) (i : ℕ) → length bytes ≤ i → (take i (text_of bytes) ≡ text_of bytes) × (drop i (text_of bytes) ≡ [])
 read_all bytes i le = (take_all i (text_of bytes) (omega (arith, length-text bytes)), drop_all i (text_of bytes) (omega (arith, length-text bytes)))
 
--- a byte that is no line feed and begins no comment is the same in the text
-pub uncommented_plain_byte : (b : ℕ) (rest : List ℕ) → b ≢ 59 → uncommented false (b ∷ rest) ≡ b ∷ uncommented false rest
-uncommented_plain_byte b rest other = by_test (b == 10) refl where
-  by_test : (t : Bool) → (b == 10) ≡ t → uncommented false (b ∷ rest) ≡ b ∷ uncommented false rest
-  by_test true e = let is : b ≡ 10 = grind (arith, nat_tests) in rw is refl
-  by_test false e = let semi : (b == 59) ≡ false = grind (arith, nat_tests) in rw (e, semi) refl
-
-letter_semi : is_Letter (class_of 59) ≡ true → ⊥
-unfolding class_of
-letter_semi h = cc
-
-pub letter_not_semi : (b : ℕ) → is_Letter (class_of b) ≡ true → b ≢ 59
-letter_not_semi b h e = letter_semi (ap (λ x. is_Letter (class_of x)) (sym e) ∙ h)
-
 -- the first byte of a text that begins in a comment or not, if the byte is neither letter nor bracket there
 first_no_letter : (c : Bool) (b : ℕ) (rest : List ℕ) → is_Letter (class_of b) ≡ false → begins_word (uncommented c (b ∷ rest)) ≡ false
 unfolding class_of
@@ -77,14 +62,3 @@ commented_begins_none (b ∷ rest) = by_test (b == 10) where
 pub text_outside_comment : (c : Bool) (text bytes : List ℕ) → text ≡ uncommented c bytes → begins_item text ≡ true → text_of bytes ≡ text
 text_outside_comment true text bytes e h = let none = commented_begins_none bytes in absurd (cc (ap begins_item e, none, h))
 text_outside_comment false text bytes e h = sym e
-
--- the first byte of a file whose text begins with a list
-pub bracket_first : (b : ℕ) (rest : List ℕ) → (b == 40) ≡ true → begins_list (text_of (b ∷ rest)) ≡ true
-bracket_first b rest e = let is : b ≡ 40 = grind (arith, nat_tests) in rw is refl
-
-pub bracket_only : (b : ℕ) (rest : List ℕ) → (b == 40) ≡ false → begins_list (text_of (b ∷ rest)) ≡ false
-bracket_only b rest e = by_tests (b == 10) (b == 59) where
-  by_tests : (t u : Bool) → begins_list (cond t (10 ∷ uncommented false rest) (cond u (32 ∷ uncommented true rest) (b ∷ uncommented false rest))) ≡ false
-  by_tests true u = refl
-  by_tests false true = refl
-  by_tests false false = e

@@ -1,5 +1,5 @@
 -- Lines and columns.
-use Rattle.std.specs.Prelude.{ℕ, ◌+◌, Bool, not, ◌||◌, ◌==◌, nat_le, List, take, count_by, take_while, reverse}
+use Rattle.std.specs.Prelude.{◌≡◌, ◌<◌, ℕ, ◌+◌, Bool, false, not, ◌||◌, ◌==◌, nat_le, List, take, count_by, take_while, reverse, slice_index}
 
 abbrev pub is_feed : ℕ → Bool
 is_feed b = b == 10
@@ -19,3 +19,7 @@ back_to_line bytes offset = take_while (λ b. not (is_feed b)) (reverse (take of
 -- The column of an offset: one more than characters begin before it in its line.
 abbrev pub column_of : List ℕ → ℕ → ℕ
 column_of bytes offset = count_by begins_character (back_to_line bytes offset) + 1
+
+-- no line feed is before the offset
+abbrev pub HasNoFeed : List ℕ → ℕ → Type 0
+HasNoFeed bytes offset = (k : ℕ) → k < offset → is_feed (slice_index bytes k) ≡ false

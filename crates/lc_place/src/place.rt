@@ -1,11 +1,11 @@
-ghost use Rattle.std.specs.Prelude.{◌≡◌, ◌≤◌, ◌<◌, ◌↔◌, IfSome, IsNone, length as list_length};
+ghost use Rattle.std.specs.Prelude.{◌≡◌, ◌+◌, ◌≤◌, ◌<◌, ◌↔◌, IfSome, IsNone, IsTrue, count_by, slice_range, length as list_length};
 ghost use Rattle.lc_place.specs.Items.{items_in};
-ghost use Rattle.lc_place.specs.Lines.{line_of, column_of, begins_character};
+ghost use Rattle.lc_place.specs.Lines.{line_of, column_of, begins_character, HasNoFeed};
 ghost use Rattle.lc_place.specs.Place.{IsPlaceOf, IsItem, IsByte};
 
 use crate::span::item_length;
 use crate::start::item_start;
-use crate::text::counted;
+use memchr::memchr;
 
 /// Where something is in the bytes of a file.
 #[derive(Clone, Copy)]
@@ -20,11 +20,22 @@ pub struct Place {
     pub column: usize,
 }
 
+/// Whether no line ends before an offset. It is looked for many bytes at a time, since the first line may be a long one.
+fn is_in_first_line(bytes: &[u8], offset: usize) -> bool
+    requires { offset ≤ list_length bytes.now }
+    ensures { IsTrue result → HasNoFeed bytes.now offset }
+{
+    memchr(b'\n', &bytes[..offset]).is_none()
+}
+
 /// The line that a byte is in, from 1.
 fn line_of(bytes: &[u8], offset: usize) -> usize
     requires { offset ≤ list_length bytes.now }
     ensures { result ≡ line_of bytes.now offset }
 {
+    if is_in_first_line(bytes, offset) {
+        return 1;
+    }
     bytes[..offset]
         .iter()
         .filter(|byte| **byte == b'\n')
@@ -39,18 +50,32 @@ pub(crate) fn begins_character(byte: u8) -> bool
     byte <= 127 || byte >= 192
 }
 
+/// Where the line of an offset begins.
+fn line_start(bytes: &[u8], offset: usize) -> usize
+    requires { offset ≤ list_length bytes.now }
+    ensures within { result ≤ offset }
+    ensures column { column_of bytes.now offset ≡ count_by begins_character (slice_range bytes.now result offset) + 1 }
+{
+    if is_in_first_line(bytes, offset) {
+        return 0;
+    }
+    let mut from = offset;
+    while from > 0 && bytes[from - 1] != b'\n' {
+        from -= 1;
+    }
+    from
+}
+
 /// The column that a byte is in, from 1.
 fn column_of(bytes: &[u8], offset: usize) -> usize
     requires { offset ≤ list_length bytes.now }
     ensures { result ≡ column_of bytes.now offset }
 {
-    let mut column = 1;
-    let mut from = offset;
-    while from > 0 && bytes[from - 1] != b'\n' {
-        from -= 1;
-        column += counted(begins_character(bytes[from]));
-    }
-    column
+    bytes[line_start(bytes, offset)..offset]
+        .iter()
+        .filter(|byte| begins_character(**byte))
+        .count()
+        + 1
 }
 
 /// The place of `length` bytes from an offset on.

@@ -1,13 +1,13 @@
 -- What is read as a plan fits the development.
 use Rattle.std.proofs.Common.{◌≡◌, ℕ, suc, ℤ, pos, negsuc, ◌+◌, Bool, true, false, ◌&&◌, List, [], ◌∷◌, length, Option, Some, None, refl, sym, ap, subst, ◌∙◌}
-use Rattle.std.proofs.lemmas.Bool.{eq-eqb}
+use Rattle.std.proofs.lemmas.Bool.{eq-eqb, and_from}
 use Rattle.std.specs.Prelude.{slice_get, option_map, if◌then◌else◌}
 use Rattle.std.specs.List.{list_all}
 use Rattle.lc_base.specs.Limits.{seat_limit}
 use Rattle.lc_base.specs.NameText.{is_name}
 use Rattle.lc_sexp.specs.Trees.{Tree, Trees, atom, list, none, ◌▸◌, item_count, item_count_of_all}
 use Rattle.lc_sexp.specs.Parts.{Fit, fits, misshapen, beyond, integer_fit}
-use Rattle.lc_reading.proofs.Holding.{Holds, holds_of_fine, holds_unit, holds_weaker, and_holds, mapped_holds, both_holds, ended_holds, if_holds, listed_holds, behind_holds, and_true, each_holds, counted_holds, declared_holds}
+use Rattle.lc_reading.proofs.Holding.{Holds, holds_of_fine, holds_unit, holds_weaker, and_holds, mapped_holds, both_holds, ended_holds, if_holds, listed_holds, behind_holds, each_holds, counted_holds, declared_holds}
 use Rattle.lc_reading.specs.Listed.{place_of}
 use Rattle.lc_reading.specs.Naming.{known, text_in, use_reading}
 use Rattle.lc_reading.specs.Readings.{Reading, fine, flawed, wrong, both}
@@ -98,7 +98,7 @@ upto_holds os n m none = tt
 upto_holds os n m (t ▸ ts) =
     both_holds (λ k. is_from 0 (most_turns + 1) k ≡ true) (λ call. has_call os call ≡ true) (λ c. calls_fit os c ≡ true) once (turns_reading m t) (call_reading os n (m + item_count t) ts)
     (bounded_holds 0 (most_turns + 1) m (number_reading m t)) (call_holds os n (m + item_count t) ts)
-    (λ k call u h. and_true (has_call os call) (is_from 0 (most_turns + 1) k) h u)
+    (λ k call u h. and_from (has_call os call) (is_from 0 (most_turns + 1) k) h u)
 
 times_holds : (os : List Operation) (n m : ℕ) (ts : Trees) → Holds (λ p. (is_from 0 (most_turns + 1) p.0 ≡ true) × (has_call os p.1 ≡ true)) (times_parts_reading os n m ts)
 times_holds os n m none = tt
@@ -111,11 +111,11 @@ times_holds os n m (t ▸ u ▸ ts) =
 with_holds : (os : List Operation) (n m : ℕ) (ts : Trees) (h : Option Head) → Holds (λ c. calls_fit os c ≡ true) (calls_with os n m ts h)
 with_holds os n m ts None = tt
 with_holds os n m ts (Some H.Call) =
-    mapped_holds (λ call. has_call os call ≡ true) (λ c. calls_fit os c ≡ true) (once usual_turns) (call_reading os n m ts) (call_holds os n m ts) (λ call h. and_true (has_call os call) true h refl)
+    mapped_holds (λ call. has_call os call ≡ true) (λ c. calls_fit os c ≡ true) (once usual_turns) (call_reading os n m ts) (call_holds os n m ts) (λ call h. and_from (has_call os call) true h refl)
 with_holds os n m ts (Some H.UpTo) = upto_holds os n m ts
 with_holds os n m ts (Some H.Times) =
     mapped_holds (λ p. (is_from 0 (most_turns + 1) p.0 ≡ true) × (has_call os p.1 ≡ true)) (λ c. calls_fit os c ≡ true) repeatedly (times_parts_reading os n m ts) (times_holds os n m ts)
-    (λ p h. and_true (has_call os p.1) (is_from 0 (most_turns + 1) p.0 && true) h.1 (and_true (is_from 0 (most_turns + 1) p.0) true h.0 refl))
+    (λ p h. and_from (has_call os p.1) (is_from 0 (most_turns + 1) p.0 && true) h.1 (and_from (is_from 0 (most_turns + 1) p.0) true h.0 refl))
 
 calls_hold : (os : List Operation) (n : ℕ) (t : Tree) → Holds (λ c. calls_fit os c ≡ true) (calls_reading os n t)
 calls_hold os n (atom w) = tt
@@ -130,7 +130,7 @@ parts_hold os clients before n m none = tt
 parts_hold os clients before n m (t ▸ ts) =
     both_holds (λ k. is_from 0 clients k ≡ true) (λ cs. list_all (calls_fit os) cs ≡ true) (λ s. script_fits os clients s ≡ true) the_script (client_reading clients before m t) _
     (client_fit_holds clients _ m (integer_fit t)) (each_holds (calls_fit os) (calls_reading os) (calls_hold os) (m + item_count t) ts)
-    (λ k cs u h. and_true (is_from 0 clients k) (list_all (calls_fit os) cs) u h)
+    (λ k cs u h. and_from (is_from 0 clients k) (list_all (calls_fit os) cs) u h)
 
 script_holds : (os : List Operation) (clients : ℕ) (before : List (List ℕ)) (n : ℕ) (t : Tree) → Holds (λ s. script_fits os clients s ≡ true) (script_reading os clients before n t)
 script_holds os clients before n t = listed_holds (λ s. script_fits os clients s ≡ true) (script_parts_reading os clients before) n t (parts_hold os clients before)
@@ -155,7 +155,7 @@ plan_parts_hold os n m (t ▸ ts) =
     (λ (p : Plan). (is_from 1 (seat_limit + 1) p.clients && list_all (list_all (script_fits os p.clients)) p.phases) ≡ true) the_plan read _
     (and_holds (λ c. is_from 1 (seat_limit + 1) c ≡ true) (λ c. count_in read ≡ c) read (bounded_holds 1 (seat_limit + 1) m (number_reading m t)) (counted read))
     (each_holds (list_all (script_fits os (count_in read))) (phase_reading os (count_in read)) (phase_holds os (count_in read)) (m + item_count t) ts)
-    (λ c ps u h. and_true (is_from 1 (seat_limit + 1) c) (list_all (list_all (script_fits os c)) ps) u.0 (subst (λ d. list_all (list_all (script_fits os d)) ps ≡ true) u.1 h))
+    (λ c ps u h. and_from (is_from 1 (seat_limit + 1) c) (list_all (list_all (script_fits os c)) ps) u.0 (subst (λ d. list_all (list_all (script_fits os d)) ps ≡ true) u.1 h))
 
 only_holds : (os : List Operation) (n m : ℕ) (ts : Trees)
     → Holds (λ (p : Plan). (is_from 1 (seat_limit + 1) p.clients && list_all (list_all (script_fits os p.clients)) p.phases) ≡ true) (only_reading os n m ts)

@@ -1,7 +1,5 @@
 -- What a worker finds of a condition that is laid out.
-use Rattle.std.proofs.Common.{◌≡◌, ℕ, zero, suc, ◌+◌, ◌<◌, List, [], ◌∷◌, map, length, get_or, Some, slice_get, sym, ap, ◌∙◌, subst, arith}
-use Rattle.std.proofs.lemmas.Option.{same_Some}
-use Rattle.lc_term.specs.Lists.{Every}
+use Rattle.std.proofs.Common.{◌≡◌, ℕ, zero, suc, ◌+◌, ◌<◌, List, [], ◌∷◌, map, length, get_or, Some, slice_get, sym, ap, ◌∙◌, arith}
 use Rattle.lc_table.specs.NodeTables.{Table}
 use Rattle.lc_table.specs.Tables.{Keeps}
 use Rattle.lc_outline.specs.Development.{Development}
@@ -12,15 +10,12 @@ use Rattle.lc_cond.specs.Uses.{AllUseTheirVariables}
 use Rattle.lc_cond.specs.VariableCounts.{AllHaveFewVariables}
 use Rattle.lc_cond.specs.declared.condition.Condition.{Condition}
 use Rattle.lc_cond.specs.declared.numbering.NumberedPart.{NumberedPart}
-use Rattle.lc_check.proofs.Walking.{all_bounded, still_known, conditions_are_kept}
+use Rattle.lc_check.proofs.Walking.{all_bounded}
 use Rattle.lc_check.specs.Answers.{IsBounded}
 use Rattle.lc_pool.specs.Desks.{IsLaid}
 use Rattle.lc_pool.specs.declared.laid.Laid.{Laid}
-
-every_at : {A : Type 0} (P : A → Type 0) (xs : List A) (k : ℕ) (x : A) → Every P xs → slice_get xs k ≡ Some x → P x
-every_at P [] k x h e = cc
-every_at P (y ∷ xs) zero x h e = subst P (same_Some y x e) h.0
-every_at P (y ∷ xs) (suc k) x h e = every_at P xs k x h.1 e
+use Rattle.lc_cond.proofs.Adding.{are_later, conditions_still}
+use Rattle.lc_cond.proofs.Sized.{every_at}
 
 -- the condition at a place of the part
 seen_at : (ts : Table) (cs : List Condition) (j : ℕ) (x : Condition) → j < length cs → x ≡ get_or cs j x → slice_get (map (condition_in ts) cs) j ≡ Some (condition_in ts x)
@@ -39,6 +34,6 @@ bounded_at D k c uses few at = every_at IsBounded (conditions D) k c (all_bounde
 -- the table has grown
 pub still_laid : (D : Development) (part : NumberedPart) (old new : Table) → Keeps old new → IsLaid D (record { terms = old; part = part }) → IsLaid D (record { terms = new; part = part })
 still_laid D part old new kept h = record {
-  are = still_known old new part.conditions.items h.are kept;
-  stand = λ j x at. h.stand j x (ap (λ l. slice_get l j) (sym (conditions_are_kept old new part.conditions.items h.are kept)) ∙ at);
+  are = are_later old new part.conditions.items h.are kept;
+  stand = λ j x at. h.stand j x (ap (λ l. slice_get l j) (sym (conditions_still old new part.conditions.items h.are kept)) ∙ at);
 }

@@ -1,21 +1,14 @@
 -- What a file has around its entries, by parts of forms that are walked.
-use Rattle.std.proofs.Common.{◌≡◌, ℕ, ◌==◌, true, List, Result, Ok, refl, sym, ap, ◌∙◌, subst, arith}
-use Rattle.std.proofs.lemmas.Bool.Decides.{nat_tests}
-use Rattle.lc_sexp.specs.Parts.{atom_fit, list_fit}
-use Rattle.lc_sexp.specs.Shown.{rest_of, text_of, part_count, ShowsAtom, IsWithin, IsPart, GivesPart}
+use Rattle.std.proofs.Common.{◌≡◌, ℕ, ◌==◌, true, List, Result, Ok, sym, ap, ◌∙◌, subst}
+use Rattle.lc_sexp.specs.Parts.{atom_fit}
+use Rattle.lc_sexp.specs.Shown.{rest_of, text_of, part_count, ShowsAtom, IsPart, GivesPart}
 use Rattle.lc_sexp.specs.Trees.{Trees, atom, list, none, ◌▸◌}
 use Rattle.lc_sexp.specs.declared.cursor.Atom.{Atom}
 use Rattle.lc_sexp.specs.declared.cursor.Cursor.{Cursor}
 use Rattle.lc_sexp.specs.declared.misfit.Misfit.{Misfit}
+use Rattle.lc_sexp.proofs.Pieced.{none_left}
 
 -- ---- a part that was given, and what is left after it
-
-pub gave_list : (r : Result Cursor Misfit) (old new inner : Cursor) → r ≡ Ok inner → GivesPart list_fit IsWithin old r new → rest_of old ≡ list (rest_of inner) ▸ rest_of new
-gave_list r old new inner e h = at (rest_of old) (subst (λ x. GivesPart list_fit IsWithin old x new) e h) where
-  at : (ts : Trees) → IsPart list_fit IsWithin old ts (Ok inner) new → ts ≡ list (rest_of inner) ▸ rest_of new
-  at none h = absurd (let e = h.0 in cc)
-  at (atom w ▸ ts) h = absurd (let e = h.0 in cc)
-  at (list us ▸ ts) h = ap (λ x. list x ▸ ts) (sym h.0.rest) ∙ ap (λ x. list (rest_of inner) ▸ x) (sym h.1.rest)
 
 pub gave_atom : (r : Result Atom Misfit) (old new : Cursor) (a : Atom) → r ≡ Ok a → GivesPart atom_fit ShowsAtom old r new → rest_of old ≡ atom (text_of a) ▸ rest_of new
 gave_atom r old new a e h = at (rest_of old) (subst (λ x. GivesPart atom_fit ShowsAtom old x new) e h) where
@@ -23,10 +16,6 @@ gave_atom r old new a e h = at (rest_of old) (subst (λ x. GivesPart atom_fit Sh
   at none h = absurd (let e = h.0 in cc)
   at (list us ▸ ts) h = absurd (let e = h.0 in cc)
   at (atom w ▸ ts) h = ap (λ x. atom x ▸ ts) (sym h.0.text) ∙ ap (λ x. atom (text_of a) ▸ x) (sym h.1.rest)
-
-none_left : (ts : Trees) → (part_count ts == 0) ≡ true → ts ≡ none
-none_left none h = refl
-none_left (t ▸ ts) h = absurd (grind (arith, nat_tests))
 
 -- a single list, with two atoms in it
 pub two_alone : (whole inner behind first left : Trees) (w n : List ℕ) → whole ≡ list inner ▸ behind → inner ≡ atom w ▸ first → first ≡ atom n ▸ left → (part_count left == 0) ≡ true → (part_count behind == 0) ≡ true

@@ -5,11 +5,12 @@ use Rattle.lc_cert.specs.Certificates.{Entry}
 use Rattle.lc_cert.specs.ColumnNames.{names_with}
 use Rattle.lc_cert.specs.OneByOne.{AreReadAlone, IsFrame, ReadAloneIsReadWhole}
 use Rattle.lc_cond.specs.Conditions.{Condition, conditions}
-use Rattle.lc_naming.specs.ColumnNames.{column_names}
+use Rattle.lc_outline.specs.ColumnNames.{column_names}
 use Rattle.lc_check.proofs.InTurn.{proved_behind, extra_behind}
 use Rattle.lc_check.specs.Verdicts.{AreProved, IsExtra, ProvesAll}
 use Rattle.lc_check.specs.Walking.{ProveInTurn}
 use Rattle.lc_pool.specs.Known.{IsKnown, KnownIsProven}
+use Rattle.lc_check.proofs.Stepping.{nothing_extra}
 
 -- a list from a place on, if this is at the place
 drop_cons : (cs : List Condition) (k : ℕ) (c : Condition) → slice_get cs k ≡ Some c → drop k cs ≡ c ∷ drop (suc k) cs
@@ -48,15 +49,12 @@ gathered D file at items (suc j) k e known =
       prove = subst (λ cs. ProveInTurn k (h.entry ∷ rest.entries) cs) (sym (drop_cons (conditions D) k h.derived.condition h.derived.due)) (h.alone.number, h.derived.derives, rest.prove);
     }
 
-none_extra : (n k : ℕ) → IsExtra n [] k → ⊥
-none_extra n k x = absurd (let s = x.stands in cc)
-
 proves_all : (es : List Entry) (cs : List Condition) → ProveInTurn 0 es cs → ProvesAll es cs
 proves_all es cs h =
     let proved : AreProved (es ++ []) 0 (cs ++ []) = proved_behind 0 es [] cs [] h tt in
     let left : AreProved es 0 (cs ++ []) = subst (λ x. AreProved x 0 (cs ++ [])) (append-nil es) proved in (
       subst (AreProved es 0) (append-nil cs) left,
-      λ k x. none_extra (length cs) k (extra_behind 0 (length cs) es [] cs k h (omega arith) (subst (λ y. IsExtra (length cs) y k) (sym (append-nil es)) x)),
+      λ k x. nothing_extra (length cs) k (extra_behind 0 (length cs) es [] cs k h (omega arith) (subst (λ y. IsExtra (length cs) y k) (sym (append-nil es)) x)),
     )
 
 pub known_is_proven : ReadAloneIsReadWhole → KnownIsProven

@@ -8,7 +8,7 @@ use Rattle.lc_cert.specs.declared.entry_reader.EntryReader.{EntryReader}
 use Rattle.lc_cond.specs.Conditions.{conditions}
 use Rattle.lc_cond.specs.ConditionView.{condition_in, AreConditions}
 use Rattle.lc_cond.specs.Numbering.{IsNumbering, StandFrom}
-use Rattle.lc_naming.specs.ColumnNames.{column_names}
+use Rattle.lc_outline.specs.ColumnNames.{column_names}
 use Rattle.lc_pool.specs.Known.{IsKnown, at_place}
 use Rattle.lc_pool.specs.declared.desk.Files.{Files}
 use Rattle.lc_pool.specs.declared.desk.Piece.{Piece}

@@ -7,7 +7,7 @@ use Rattle.lc_cert.specs.Certificates.{Entry}
 use Rattle.lc_cert.specs.ColumnNames.{names_with}
 use Rattle.lc_cert.specs.OneByOne.{IsReadAlone, IsFrame}
 use Rattle.lc_cond.specs.Conditions.{Condition, conditions}
-use Rattle.lc_naming.specs.ColumnNames.{column_names}
+use Rattle.lc_outline.specs.ColumnNames.{column_names}
 use Rattle.lc_check.specs.Verdicts.{IsProvenBy}
 
 -- the proof derives the condition of this number

@@ -4,7 +4,7 @@ ghost use Rattle.lc_base.specs.Limits.{file_limit};
 ghost use Rattle.lc_kernel.specs.Proofs.{size};
 ghost use Rattle.lc_kernel.specs.View.{proof_of};
 ghost use Rattle.lc_cert.specs.ColumnNames.{names_with};
-ghost use Rattle.lc_naming.specs.ColumnNames.{column_names};
+ghost use Rattle.lc_outline.specs.ColumnNames.{column_names};
 ghost use Rattle.lc_cert.specs.EntryView.{entry_of};
 ghost use Rattle.lc_cert.specs.OneByOne.{names_known, IsReadAlone};
 ghost use Rattle.lc_cond.specs.Numbering.{IsNumbering};

@@ -4,6 +4,7 @@ use lc_base::Fault;
 use lc_check::{Prover, prove_one};
 use lc_cond::Condition;
 use lc_kernel::Proof;
+use lc_outline::Development;
 use lc_table::Terms;
 use std::alloc::Global;
 use std::sync::Wait;
@@ -19,6 +20,7 @@ impl<R: Wait, G: Gate> Prover for Gated<'_, R, G> {
     fn prove(
         &mut self,
         alloc: Global,
+        _development: &Development,
         terms: &mut Terms,
         number: u64,
         condition: &Condition,

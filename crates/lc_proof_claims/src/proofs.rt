@@ -2,16 +2,16 @@
 ghost use Rattle.std.specs.Prelude.{◌≡◌, ◌<◌, ◌+◌, ◌^◌, List, ℕ, IfOk};
 ghost use Rattle.lc_kernel.specs.Proofs.{Proof as Steps, size};
 ghost use Rattle.lc_kernel.specs.View.{proof_of};
-ghost use Rattle.lc_rename.specs.RenamedProofs.{is_covered, renamed};
-ghost use Rattle.lc_rename.specs.Renaming.{column_for};
-ghost use Rattle.lc_standing.specs.Standing.{IsStanding, StandsGoal};
+ghost use Rattle.lc_carry.specs.RenamedProofs.{is_covered, renamed};
+ghost use Rattle.lc_carry.specs.Renaming.{column_for};
+ghost use Rattle.lc_proof_state.specs.Standing.{IsStanding, StandsGoal};
 ghost use Rattle.lc_term.specs.Syntax as S;
 ghost use Rattle.lc_term.specs.View.{formula_of, formulas_of};
 
 use lc_base::{ColId, OutOfMemory};
+use lc_carry::{is_covered, renamed};
 use lc_kernel::Proof;
-use lc_rename::{is_covered, renamed};
-use lc_standing::{Standing, stands_at};
+use lc_proof_state::{Standing, stands_at};
 use lc_term::Formula;
 use std::alloc::Global;
 

@@ -1,17 +1,16 @@
 -- What is in a list after its word, and one part alone.
-use Rattle.std.proofs.Common.{◌≡◌, ℕ, List, [], Ok, Err, true, false, refl, sym, subst}
+use Rattle.std.proofs.Common.{◌≡◌, ℕ, List, [], Ok, Err, true, false, refl}
 use Rattle.std.specs.Prelude.{Result}
 use Rattle.std.specs.Result.{IsErrAnd}
-use Rattle.lc_sexp.specs.Shown.{rest_of, number_of, owner_of}
+use Rattle.lc_sexp.specs.Shown.{rest_of}
 use Rattle.lc_sexp.specs.Trees.{Tree, Trees, atom, list, none, ◌▸◌}
 use Rattle.lc_sexp.specs.declared.cursor.Cursor.{Cursor}
 use Rattle.lc_sexp.specs.declared.misfit.Misfit.{Misfit}
 use Rattle.lc_sexp.specs.declared.misfit.Misfit.TheVariants.{Shape as Misshapen}
-use Rattle.lc_reading.proofs.Sections.{behind_reading-other, behind_reading-is}
 use Rattle.lc_reading.specs.Flaws.{misfit_flaw}
 use Rattle.lc_reading.specs.Listed.{names_among}
-use Rattle.lc_reading.specs.Parts.{IsBehindWord, begins, tree_of, place_of}
-use Rattle.lc_reading.specs.Readings.{Reading, wrong, behind_reading}
+use Rattle.lc_reading.specs.Parts.{IsBehindWord, begins, tree_of}
+use Rattle.lc_reading.specs.Readings.{Reading, wrong}
 use Rattle.lc_reading.specs.Results.{IsReading}
 use Rattle.lc_reading.specs.Words.{is}
 use Rattle.lc_reading.specs.declared.flaw.ReadFault.{ReadFault}
@@ -20,21 +19,11 @@ use Rattle.lc_reading.specs.declared.part.Part.{Part}
 use Rattle.lc_reading.specs.declared.pass.Pass.TheVariants.{Shape}
 use Rattle.lc_proof_text.specs.FileNames.{names_behind}
 
--- what is read after the word
-pub behind_ok : {T X : Type 0} (view : T → X) (word : List ℕ) (read : ℕ → ℕ → Trees → Reading X) (part : Part) (c : Cursor) (result : Result T ReadFault) → IsBehindWord word part (Ok c)
-    → IsReading view (read (owner_of c) (number_of c) (rest_of c)) result → IsReading view (behind_reading word read (place_of part) (tree_of part)) result
-behind_ok view word read part c result behind h = subst (λ r. IsReading view r result) (sym (behind_reading-is word read part c behind)) h
-
 -- another list is misshapen
 pub misfit_at : {T X : Type 0} (view : T → X) (n : ℕ) (r : Reading X) (misfit : Misfit) (result : Result T ReadFault) → r ≡ wrong Shape n → misfit ≡ Misshapen n → IsErrAnd result (λ fault. fault ≡ Flawed (misfit_flaw misfit))
     → IsReading view r result
 misfit_at view n r misfit (Ok x) e is told = absurd told
 misfit_at view n r misfit (Err fault) e is told = let same : fault ≡ Flawed (misfit_flaw misfit) = told in rw (same, is) e
-
-pub behind_err : {T X : Type 0} (view : T → X) (word : List ℕ) (read : ℕ → ℕ → Trees → Reading X) (part : Part) (misfit : Misfit) (result : Result T ReadFault) → IsBehindWord word part (Err misfit)
-    → IsErrAnd result (λ fault. fault ≡ Flawed (misfit_flaw misfit)) → IsReading view (behind_reading word read (place_of part) (tree_of part)) result
-behind_err view word read part misfit result (is, other) told =
-    misfit_at view (place_of part) _ misfit result (behind_reading-other word read (place_of part) (tree_of part) other) is told
 
 -- the names that are declared after the word
 names_at : (word w : List ℕ) (t : Tree) (ts us : Trees) → t ≡ list (atom w ▸ ts) → is w word ≡ true → us ≡ ts → names_behind word t ≡ names_among us

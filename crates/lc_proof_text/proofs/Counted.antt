@@ -14,7 +14,7 @@ one_declared : (t : Tree) → length (declared_by t) ≤ item_count t
 one_declared (atom w) = omega arith
 one_declared (list ts) = omega arith
 
-names_counted : (ts : Trees) → length (names_among ts) ≤ item_count_of_all ts
+pub names_counted : (ts : Trees) → length (names_among ts) ≤ item_count_of_all ts
 names_counted none = omega arith
 names_counted (t ▸ ts) = omega (arith, length-append (declared_by t) (names_among ts), one_declared t, names_counted ts)
 

@@ -1,12 +1,12 @@
 -- What a formula file says is of the variables that it declares, and it has no more of them, with the steps of its proof, than items.
-use Rattle.std.proofs.Common.{◌≡◌, ℕ, zero, suc, ◌+◌, ◌≤◌, Bool, true, false, cond, List, [], ◌∷◌, length, Option, Some, None, refl, sym, ap, subst, arith, IfSome, length-append}
+use Rattle.std.proofs.Common.{◌≡◌, ℕ, zero, suc, ◌+◌, ◌≤◌, Bool, true, false, cond, List, [], ◌∷◌, length, Option, Some, None, refl, sym, ap, subst, arith, IfSome}
 use Rattle.std.proofs.lemmas.Bool.Decides.{nat_tests}
 use Rattle.std.specs.Prelude.{option_map, codes, nat_lt}
 use Rattle.lc_sexp.specs.Trees.{Tree, Trees, atom, list, none, ◌▸◌, item_count, item_count_of_all}
 use Rattle.lc_kernel.specs.Below.{all_below}
 use Rattle.lc_kernel.specs.Proofs as S
 use Rattle.lc_kernel.specs.Proofs.{size, size_of_all, proof, more}
-use Rattle.lc_reading.specs.Listed.{names_among, declared_by as declared_at, place_of}
+use Rattle.lc_reading.specs.Listed.{place_of}
 use Rattle.lc_reading.specs.Readings.{Reading, fine, wrong, both}
 use Rattle.lc_reading.specs.Words.{is}
 use Rattle.lc_reading.specs.declared.pass.Pass.TheVariants.{Shape}
@@ -23,6 +23,7 @@ use Rattle.lc_proof_text.specs.Proofs.{headed_reading, proof_reading, proofs_rea
 use Rattle.lc_proof_text.specs.Steps.{multiples_reading, step_reading}
 use Rattle.lc_proof_text.specs.declared.head.Due.{Due}
 use Rattle.lc_proof_text.specs.declared.head.Head.{Head}
+use Rattle.lc_proof_text.proofs.Counted.{behind_counted}
 
 -- listed names have places below their count
 placed_below : (vs : List (List ℕ)) (w : List ℕ) → IfSome (place_of vs w) (λ k. nat_lt k (length vs) ≡ true)
@@ -39,24 +40,6 @@ below count k = nat_lt k count
 
 claim_below : (d : Declared) → NamesIn (below (length d.variables)) (claim_names d)
 claim_below d = record { variables = λ w. placed_below d.variables w; numbered = refl }
-
-declared_fewer : (t : Tree) → length (declared_at t) ≤ item_count t
-declared_fewer (atom w) = omega arith
-declared_fewer (list ts) = omega arith
-
-names_fewer : (ts : Trees) → length (names_among ts) ≤ item_count_of_all ts
-names_fewer none = omega arith
-names_fewer (t ▸ ts) = omega (arith, length-append (declared_at t) (names_among ts), declared_fewer t, names_fewer ts)
-
--- a section declares no more names than it has items
-behind_fewer : (word : List ℕ) (t : Tree) → length (names_behind word t) ≤ item_count t
-behind_fewer word (atom w) = omega arith
-behind_fewer word (list none) = omega arith
-behind_fewer word (list (list us ▸ ts)) = omega arith
-behind_fewer word (list (atom w ▸ ts)) = cases (is w word) where
-  cases : (b : Bool) → length (cond b (names_among ts) []) ≤ item_count (list (atom w ▸ ts))
-  cases true = omega (arith, names_fewer ts)
-  cases false = omega arith
 
 -- a step with its proofs has one more than they
 headed_sized : (names : Names) (n m k : ℕ) (ts : Trees) (o : Option Head) (proofs : Head → Reading S.Proofs) → ((h : Head) → IfFine (proofs h) (λ ps. size_of_all ps ≤ k))
@@ -150,7 +133,7 @@ sections_founded n m (v ▸ c ▸ h ▸ g ▸ p ▸ ts) =
     let at_h = at_c + item_count c in
     let at_g = at_h + item_count h in
     let at_p = at_g + item_count g in
-    let few : length (names_behind (codes "vars") v) + item_count p ≤ items = omega (arith, behind_fewer (codes "vars") v) in
+    let few : length (names_behind (codes "vars") v) + item_count p ≤ items = omega (arith, behind_counted (codes "vars") v) in
     ended_fine (λ c. IsFounded c items) (at_p + item_count p) ts _
     (both_fine (λ u. Unit {0}) (λ c. IsFounded c items) (λ c. IsFounded c items) (λ x y. y) (declarations_reading m v at_c c) (claim_reading (declared_by v c) at_h h at_g g at_p p)
     (if_fine_unit (declarations_reading m v at_c c)) (claim_founded (declared_by v c) at_h h at_g g at_p p items few) (λ x y a b. b))

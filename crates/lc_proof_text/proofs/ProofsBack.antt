@@ -1,9 +1,9 @@
 -- What is printed of a proof reads back.
-use Rattle.std.proofs.Common.{◌≡◌, ℕ, ℤ, true, true≢false, List, [], ◌∷◌, refl, ap, ap₂, ◌∙◌, arith}
+use Rattle.std.proofs.Common.{◌≡◌, ℕ, ℤ, true, true≢false, List, [], ◌∷◌, refl, ap, ◌∙◌, arith}
 use Rattle.std.proofs.lemmas.Bool.{cond-true, cond-false}
 use Rattle.lc_sexp.specs.Parts.{fits_i64}
 use Rattle.lc_sexp.specs.Trees.{none}
-use Rattle.lc_reading.specs.Readings.{Reading, fine, mapped, both}
+use Rattle.lc_reading.specs.Readings.{fine, mapped}
 use Rattle.lc_term.specs.Lists.{Every}
 use Rattle.lc_term.specs.Syntax.{Term, Column, Formula}
 use Rattle.lc_text.specs.Names.{Names}
@@ -12,9 +12,9 @@ use Rattle.lc_text.specs.SpelledTree.{term_tree, column_tree, formula_tree, Term
 use Rattle.lc_text.specs.Terms.{pair, fit_reading, number_reading, term_reading, column_reading}
 use Rattle.lc_text.specs.Formulas.{formula_reading}
 use Rattle.lc_text.proofs.Numerals.{integer_fit-signed}
-use Rattle.lc_text.proofs.ReadBack.{term_back, column_back, formula_back}
+use Rattle.lc_text.proofs.ReadBack.{term_back, column_back, formula_back, two_back}
 use Rattle.lc_kernel.specs.Proofs as S
-use Rattle.lc_kernel.specs.Proofs.{Step, Split, Cases, Push, Instantiate, Fresh, Cut, Written, Same, Affine, Trichotomy, Divide, Sum, Opposite, Open}
+use Rattle.lc_kernel.specs.Proofs.{Split, Cases, Push, Instantiate, Fresh, Cut, Written, Same, Affine, Trichotomy, Divide, Sum, Opposite, Open}
 use Rattle.lc_kernel.specs.Proofs.{Proof, Proofs, proof, more}
 use Rattle.lc_proof_text.specs.Heads.{later, is_met, is_full}
 use Rattle.lc_proof_text.specs.ProofTrees.{number_tree, multiple_trees, proof_tree, proof_trees, AreDue, ProofReadsBack, ProofsReadBack}
@@ -23,9 +23,6 @@ use Rattle.lc_proof_text.specs.Steps as R
 use Rattle.lc_proof_text.specs.Steps.{multiples_reading}
 use Rattle.lc_proof_text.specs.declared.head.Due.{Due}
 use Rattle.lc_proof_text.specs.declared.head.Head.TheVariants as H
-
-two_back : {X Y Z : Type 0} (f : X → Y → Z) (r : Reading X) (s : Reading Y) (x : X) (y : Y) → r ≡ fine x → s ≡ fine y → both f r s ≡ fine (f x y)
-two_back f r s x y e g = ap₂ (both f) e g
 
 number_back : (n : ℕ) (z : ℤ) → fits_i64 z ≡ true → number_reading n (number_tree z) ≡ fine z
 number_back n z h = ap (fit_reading n) (integer_fit-signed z h)

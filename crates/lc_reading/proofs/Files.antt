@@ -55,7 +55,7 @@ of_text read bytes (inr (offset, fault)) = inr (R.Text offset, inl (offset, refl
 pub says_or_refused : {X : Type 0} (read : Trees → Reading X) (bytes : List ℕ) → ((x : X) × Says read bytes x) ⊎ ((refusal : Refusal) × IsFirstRefusal read bytes refusal)
 says_or_refused read bytes = of_text read bytes (reading_or_fault_lem bytes)
 
-fine_not_flawed : {X : Type 0} (x : X) (f : Flaw) → fine x ≡ flawed f → ⊥
+pub fine_not_flawed : {X : Type 0} (x : X) (f : Flaw) → fine x ≡ flawed f → ⊥
 fine_not_flawed x f e = cc
 
 pub says_not_refused : {X : Type 0} (read : Trees → Reading X) (bytes : List ℕ) (x : X) (refusal : Refusal) → Says read bytes x → IsFirstRefusal read bytes refusal → ⊥
@@ -69,7 +69,7 @@ same_value x y e = cc
 pub says_one : {X : Type 0} (read : Trees → Reading X) (bytes : List ℕ) (x y : X) → Says read bytes x → Says read bytes y → x ≡ y
 says_one read bytes x y (ts, reads, says) (us, other, says') = same_value x y (sym says ∙ ap read (one_reading_lem bytes ts us reads other) ∙ says')
 
-same_flaw : {X : Type 0} (f g : Flaw) (r : Reading X) → r ≡ flawed f → r ≡ flawed g → f ≡ g
+pub same_flaw : {X : Type 0} (f g : Flaw) (r : Reading X) → r ≡ flawed f → r ≡ flawed g → f ≡ g
 same_flaw f g r h k = let e : flawed f ≡ flawed g = sym h ∙ k in cc
 
 pub refused_once : {X : Type 0} (read : Trees → Reading X) (bytes : List ℕ) (r s : Refusal) → IsFirstRefusal read bytes r → IsFirstRefusal read bytes s → r ≡ s

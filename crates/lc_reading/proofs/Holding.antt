@@ -1,6 +1,7 @@
 -- What holds of all that is read.
-use Rattle.std.proofs.Common.{◌≡◌, ℕ, zero, suc, ◌+◌, Bool, true, false, ◌&&◌, cond, List, ◌∷◌, ◌++◌, length, length-append, refl, ap, subst, arith}
+use Rattle.std.proofs.Common.{◌≡◌, ℕ, zero, suc, ◌+◌, Bool, true, false, cond, List, ◌∷◌, ◌++◌, length, length-append, refl, ap, subst, arith}
 use Rattle.std.specs.List.{list_all}
+use Rattle.std.proofs.lemmas.Bool.{and_from}
 use Rattle.lc_sexp.specs.Trees.{Tree, Trees, atom, list, none, ◌▸◌, item_count}
 use Rattle.lc_reading.specs.Readings.{Reading, fine, flawed, mapped, both, three, ended, limited, listed_reading, behind_reading}
 use Rattle.lc_reading.specs.Rows.{each_reading, counted_reading, all_declared, declared_reading}
@@ -68,17 +69,13 @@ behind_holds P word read n (list none) h = tt
 behind_holds P word read n (list (list us ▸ ts)) h = tt
 behind_holds P word read n (list (atom w ▸ ts)) h = if_holds P (is w word) (read n (n + 2) ts) _ (h n (n + 2) ts) tt
 
-pub and_true : (a b : Bool) → a ≡ true → b ≡ true → (a && b) ≡ true
-and_true true b h g = g
-and_true false b h g = absurd (cc)
-
 -- of each item in a row
 pub each_holds : {X : Type 0} (test : X → Bool) (read : ℕ → Tree → Reading X) → ((n : ℕ) (t : Tree) → Holds (λ x. test x ≡ true) (read n t)) → (m : ℕ) (ts : Trees)
     → Holds (λ xs. list_all test xs ≡ true) (each_reading read m ts)
 each_holds test read h m none = refl
 each_holds test read h m (t ▸ ts) =
     both_holds (λ x. test x ≡ true) (λ xs. list_all test xs ≡ true) (λ xs. list_all test xs ≡ true) (λ x xs. x ∷ xs) (read m t) (each_reading read (m + item_count t) ts)
-    (h m t) (each_holds test read h (m + item_count t) ts) (λ x xs u v. and_true (test x) (list_all test xs) u v)
+    (h m t) (each_holds test read h (m + item_count t) ts) (λ x xs u v. and_from (test x) (list_all test xs) u v)
 
 -- the same for a given number of items
 pub counted_holds : {X : Type 0} (test : X → Bool) (read : ℕ → Tree → Reading X) → ((n : ℕ) (t : Tree) → Holds (λ x. test x ≡ true) (read n t)) → (n k m : ℕ) (ts : Trees)
@@ -89,7 +86,7 @@ counted_holds test read h n zero m (t ▸ ts) = tt
 counted_holds test read h n (suc k) m (t ▸ ts) =
     both_holds (λ x. test x ≡ true) (λ xs. (list_all test xs ≡ true) × (length xs ≡ k)) (λ xs. (list_all test xs ≡ true) × (length xs ≡ suc k)) (λ x xs. x ∷ xs)
     (read m t) (counted_reading read n k (m + item_count t) ts) (h m t) (counted_holds test read h n k (m + item_count t) ts)
-    (λ x xs u v. (and_true (test x) (list_all test xs) u v.0, ap suc v.1))
+    (λ x xs u v. (and_from (test x) (list_all test xs) u v.0, ap suc v.1))
 
 -- the same for items that declare names
 pub declared_holds : {X : Type 0} (test : X → Bool) (read : List (List ℕ) → ℕ → Tree → Reading X) (declares : Tree → List (List ℕ))
@@ -99,7 +96,7 @@ declared_holds test read declares h before m none = refl
 declared_holds test read declares h before m (t ▸ ts) =
     both_holds (λ x. test x ≡ true) (λ xs. list_all test xs ≡ true) (λ xs. list_all test xs ≡ true) (λ x xs. x ∷ xs)
     (read before m t) (declared_reading read declares (before ++ declares t) (m + item_count t) ts)
-    (h before m t) (declared_holds test read declares h (before ++ declares t) (m + item_count t) ts) (λ x xs u v. and_true (test x) (list_all test xs) u v)
+    (h before m t) (declared_holds test read declares h (before ++ declares t) (m + item_count t) ts) (λ x xs u v. and_from (test x) (list_all test xs) u v)
 
 -- there are as many as names, if each declares one
 pub declared_counts : {X : Type 0} (read : List (List ℕ) → ℕ → Tree → Reading X) (declares : Tree → List (List ℕ))

@@ -10,3 +10,5 @@ mod Entries
 mod Noted
 pub mod Files
 pub mod Fine
+pub mod Parts
+pub mod Results

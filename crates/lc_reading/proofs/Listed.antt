@@ -13,6 +13,7 @@ use Rattle.lc_reading.specs.Results.{IsReading, limited_result}
 use Rattle.lc_reading.specs.declared.flaw.ReadFault.{ReadFault}
 use Rattle.lc_reading.specs.declared.flaw.ReadFault.TheVariants.{Flawed, OutOfMemory}
 use Rattle.lc_reading.specs.declared.part.Part.{Part}
+use Rattle.lc_reading.specs.Words.{is}
 
 -- what is read of the item n at o, m and us, which are those of its list
 listed_reading-at : {X : Type 0} (read : ℕ → ℕ → Trees → Reading X) (n o m : ℕ) (t : Tree) (us : Trees) → list us ≡ t → o ≡ n → m ≡ o + 1 → listed_reading read n t ≡ read o m us

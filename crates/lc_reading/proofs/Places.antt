@@ -1,24 +1,11 @@
 -- Names that are listed, and the place of each one's first occurrence.
-use Rattle.std.proofs.Common.{◌≡◌, ℕ, suc, ◌<◌, Bool, true, false, List, [], ◌∷◌, ◌++◌, Option, Some, None, refl, ap, ◌∙◌, cond, arith}
+use Rattle.std.proofs.Common.{◌≡◌, ℕ, suc, ◌+◌, ◌<◌, Bool, true, false, List, [], ◌∷◌, ◌++◌, Option, Some, None, refl, ap, ◌∙◌, cond, arith}
 use Rattle.std.specs.Prelude.{option_map, is_some, ◌||◌, length}
 use Rattle.std.specs.List.{list_any}
-use Rattle.std.specs.Map.{lookup}
 use Rattle.std.specs.Option.{option_or}
+use Rattle.lc_lemmas.proofs.Options.{map-zero, one_before}
 use Rattle.lc_reading.specs.Words.{is}
 use Rattle.lc_reading.specs.Listed.{place_of}
-
-first_of_two : {X : Type 0} (here there : Bool) (v w : X) (o : Option X) → cond here (Some v) (option_or o (cond there (Some w) None)) ≡ option_or (cond here (Some v) o) (cond there (Some w) None)
-first_of_two true there v w o = refl
-first_of_two false there v w o = refl
-
--- what is found if one more entry comes after the others
-pub lookup_last : {K X : Type 0} (test : K → Bool) (es : List (K × X)) (k : K) (x : X) → lookup test (es ++ (k, x) ∷ []) ≡ option_or (lookup test es) (cond (test k) (Some x) None)
-lookup_last test [] k x = refl
-lookup_last test (e ∷ es) k x = ap (cond (test e.0) (Some e.1)) (lookup_last test es k x) ∙ first_of_two (test e.0) (test k) e.1 x (lookup test es)
-
-pub option_without_some : {X : Type 0} (o : Option X) → is_some o ≡ false → o ≡ None
-option_without_some None h = refl
-option_without_some (Some x) h = cc
 
 later : (here there : Bool) (p : Option ℕ) (n : ℕ) → cond here (Some 0) (option_map suc (option_or p (cond there (Some n) None))) ≡ option_or (cond here (Some 0) (option_map suc p)) (cond there (Some (suc n)) None)
 later true there p n = refl
@@ -50,3 +37,16 @@ below false (Some q) n p later_below e = let next : suc q ≡ p = cc in omega (a
 pub place_below : (vs : List (List ℕ)) (w : List ℕ) (p : ℕ) → place_of vs w ≡ Some p → p < length vs
 place_below [] w p e = cc
 place_below (v ∷ vs) w p e = below (is w v) (place_of vs w) (length vs) p (λ q h. place_below vs w q h) e
+
+pub placed_before : (own others : List (List ℕ)) (w : List ℕ) (k : ℕ) → place_of own w ≡ Some k → place_of (own ++ others) w ≡ Some k
+placed_before [] others w k e = cc
+placed_before (v ∷ own) others w k e = by_first (is w v) k (place_of own w) (place_of (own ++ others) w) (placed_before own others w) e where
+  by_first : (b : Bool) (k : ℕ) (o p : Option ℕ) → ((j : ℕ) → o ≡ Some j → p ≡ Some j) → cond b (Some 0) (option_map suc o) ≡ Some k → cond b (Some 0) (option_map suc p) ≡ Some k
+  by_first true k o p f e = e
+  by_first false k None p f e = absurd (cc)
+  by_first false k (Some j) p f e = ap (option_map suc) (f j refl) ∙ e
+
+pub place_behind : (vs ws : List (List ℕ)) (w : List ℕ) → place_of (vs ++ ws) w ≡ option_or (place_of vs w) (option_map (λ k. length vs + k) (place_of ws w))
+place_behind [] ws w = map-zero (place_of ws w)
+place_behind (v ∷ vs) ws w =
+    ap (λ o. cond (is w v) (Some 0) (option_map suc o)) (place_behind vs ws w) ∙ one_before (length vs) (is w v) (place_of vs w) (place_of ws w)

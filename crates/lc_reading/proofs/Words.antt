@@ -1,7 +1,8 @@
 -- Words that are the same.
-use Rattle.std.proofs.Common.{◌≡◌, ◌≢◌, ℕ, true, false, Bool, ◌&&◌, List, [], ◌∷◌, length, refl, ap, ◌∙◌, arith}
+use Rattle.std.proofs.Common.{◌≡◌, ◌≢◌, ℕ, true, false, ◌&&◌, List, [], ◌∷◌, length, refl, ap, ◌∙◌, arith}
 use Rattle.std.proofs.lemmas.Bool.{and_parts, eqb-true}
 use Rattle.std.specs.Bool.{nat_eq}
+use Rattle.lc_lemmas.proofs.Booleans.{and_false}
 use Rattle.lc_reading.specs.Words.{is}
 
 pub is-true : (w c : List ℕ) → is w c ≡ true → w ≡ c
@@ -14,13 +15,9 @@ is-true (x ∷ w) (y ∷ c) h =
     let others = is-true w c p.1 in
     cc
 
-not_both : (b : Bool) → (b && false) ≡ false
-not_both true = refl
-not_both false = refl
-
 -- words of different lengths are not the same
 pub is_other_length : (w c : List ℕ) → length w ≢ length c → is w c ≡ false
 is_other_length [] [] h = absurd (h refl)
 is_other_length [] (y ∷ c) h = refl
 is_other_length (x ∷ w) [] h = refl
-is_other_length (x ∷ w) (y ∷ c) h = ap (λ b. nat_eq x y && b) (is_other_length w c (λ e. h (omega (arith, e)))) ∙ not_both (nat_eq x y)
+is_other_length (x ∷ w) (y ∷ c) h = ap (λ b. nat_eq x y && b) (is_other_length w c (λ e. h (omega (arith, e)))) ∙ and_false (nat_eq x y)

@@ -1,10 +1,11 @@
 -- Cells of clients.
 use Rattle.std.proofs.Common.{◌≡◌, ℕ, zero, suc, ◌<◌, ◌≤◌, List, [], ◌∷◌, ◌++◌, ℤ, take, drop, length, map, refl, ap, subst, sym, arith, append-nil, ◌∙◌}
+use Rattle.lc_lemmas.proofs.Lists.{dropped_all}
 use Rattle.lc_base.specs.declared.ids.ColId.{ColId}
 use Rattle.lc_term.specs.Lists.{Every}
-use Rattle.lc_seq.proofs.Runs.{dropped_all}
 use Rattle.lc_term.specs.SystemColumns.{arg_columns, column_count}
 use Rattle.lc_term.specs.Updates.{Write, cell_writes}
+use Rattle.lc_term.proofs.Lists.{Every-take}
 
 abbrev pub numbers_of : List ColId → List ℕ
 numbers_of cs = map (λ c. c.0) cs
@@ -18,16 +19,11 @@ every-numbers : (n : ℕ) (cs : List ColId) → Every (λ c. c < n) (numbers_of 
 every-numbers n [] h = tt
 every-numbers n (c ∷ cs) h = (h.0, every-numbers n cs h.1)
 
-every-take : {A : Type 0} (P : A → Type 0) (k : ℕ) (xs : List A) → Every P xs → Every P (take k xs)
-every-take P zero xs h = tt
-every-take P (suc k) [] h = tt
-every-take P (suc k) (x ∷ xs) h = (h.0, every-take P k xs h.1)
-
 -- the columns of arguments are there
 pub arguments-there : (first n k : ℕ) (cs : List ColId) → numbers_of cs ≡ arg_columns first → column_count first ≤ n → Every (λ (c : ColId). c.0 < n) (take k cs)
 arguments-there first n k cs e h =
     let all : Every (λ c. c < n) (arg_columns first) = (omega (arith, h), (omega (arith, h), (omega (arith, h), tt))) in
-    every-take (λ (c : ColId). c.0 < n) k cs (every-numbers n cs (subst (Every (λ c. c < n)) (sym e) all))
+    Every-take (λ (c : ColId). c.0 < n) k cs (every-numbers n cs (subst (Every (λ c. c < n)) (sym e) all))
 
 no-writes : (cs : List ℕ) (i : ℤ) → cell_writes cs i [] ≡ []
 no-writes [] i = refl

@@ -1,14 +1,14 @@
 -- Branches of the code that are taken, one after another.
 use Rattle.std.proofs.Common.{◌≡◌, ℕ, ◌+◌, ◌<◌, List, [], ◌∷◌, ◌++◌, length, drop, get_or, refl, sym, subst, ap, ap₂, ◌∙◌, append_assoc, append-nil}
 use Rattle.lc_table.specs.NodeTables.{Table}
-use Rattle.lc_table.specs.PutNumbers.{terms_in, AreTerms}
+use Rattle.lc_put.specs.PutNumbers.{terms_in, AreTerms}
 use Rattle.lc_term.specs.Said.{told, after}
 use Rattle.lc_term.specs.Syntax.{Term, Column, Formula, Not}
 use Rattle.lc_table.specs.Tables.{term_in, formula_in, IsTerm, HasFormula, Keeps}
 use Rattle.lc_term.specs.View.{formula_of}
 use Rattle.lc_table.specs.declared.node.FormulaId.{FormulaId}
 use Rattle.lc_table.specs.declared.node.TermId.{TermId}
-use Rattle.lc_table.proofs.ByNumber.{terms_still}
+use Rattle.lc_put.proofs.ByNumber.{terms_still}
 use Rattle.lc_table.proofs.Later.{formula_is, term_still}
 use Rattle.lc_seq.specs.Specification as Q
 use Rattle.lc_seq.specs.Specification.{Operation}

@@ -2,13 +2,13 @@
 use Rattle.std.proofs.Common.{◌≡◌, ℕ, ◌+◌, ◌<◌, List, [], ◌∷◌, ◌++◌, length, map, take, get_or, sym, subst, ap, ◌∙◌}
 use Rattle.std.proofs.lemmas.List.{map_more, map-append}
 use Rattle.lc_table.specs.NodeTables.{Table}
-use Rattle.lc_table.specs.PutNumbers.{terms_in, AreTerms}
+use Rattle.lc_put.specs.PutNumbers.{terms_in, AreTerms}
 use Rattle.lc_term.specs.Said.{told}
 use Rattle.lc_term.specs.Syntax.{Formula}
 use Rattle.lc_table.specs.Tables.{formulas_in, AreFormulas, HasFormula, Keeps}
 use Rattle.lc_table.specs.declared.node.FormulaId.{FormulaId}
 use Rattle.lc_table.specs.declared.node.TermId.{TermId}
-use Rattle.lc_table.proofs.ByNumber.{terms_still}
+use Rattle.lc_put.proofs.ByNumber.{terms_still}
 use Rattle.lc_table.proofs.Later.{formulas_pushed, are_formulas_pushed}
 use Rattle.lc_seq.specs.Specification as Q
 use Rattle.lc_seq.specs.SpecView.{branch_of}

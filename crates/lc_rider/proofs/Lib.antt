@@ -1,13 +1,13 @@
 pub mod Riding
 pub mod PathLaw
 pub mod PathTaken
-mod Lists
+pub mod Lists
 pub mod PathLater
 mod Placed
 mod Saying
 mod Reading
 mod Guarding
-mod PathSteps
+pub mod PathSteps
 mod PathParts
 mod Marked
 mod MarkStores

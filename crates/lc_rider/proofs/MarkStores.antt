@@ -1,9 +1,9 @@
 -- What marks store, one update after another, by number.
-use Rattle.std.proofs.Common.{◌≡◌, ℕ, ◌+◌, ◌<◌, ◌≤◌, List, [], ◌∷◌, ◌++◌, length, map, drop, get_or, refl, sym, subst, ap, ap₂, ◌∙◌}
+use Rattle.std.proofs.Common.{◌≡◌, ℕ, ◌+◌, ◌<◌, ◌≤◌, List, ◌∷◌, ◌++◌, length, map, drop, get_or, refl, sym, subst, ap, ap₂, ◌∙◌}
 use Rattle.std.proofs.lemmas.List.{drop_more, map-append, drop_all}
 use Rattle.lc_base.specs.declared.ids.ColId.{ColId}
 use Rattle.lc_table.specs.NodeTables.{Table}
-use Rattle.lc_table.specs.PutNumbers.{columns_at, AreColumns, terms_in, AreTerms, replacement_at}
+use Rattle.lc_put.specs.PutNumbers.{columns_at, AreColumns, terms_in, AreTerms, replacement_at}
 use Rattle.lc_term.specs.Replacement.{replace_term}
 use Rattle.lc_term.specs.Said.{put, puts, said, at_client}
 use Rattle.lc_term.specs.Syntax.{Term, Variable, Column}
@@ -15,12 +15,13 @@ use Rattle.lc_table.specs.declared.node.ColExprId.{ColExprId}
 use Rattle.lc_table.specs.declared.node.TermId.{TermId}
 use Rattle.lc_term.specs.declared.term.Term as D
 use Rattle.lc_term.specs.declared.update.Update as M
-use Rattle.lc_table.proofs.ByNumber.{are_columns_later, are_terms_later, columns_still, terms_still, replacement_still}
+use Rattle.lc_put.proofs.ByNumber.{are_columns_later, are_terms_later, columns_still, terms_still, replacement_still}
 use Rattle.lc_table.proofs.Later.{kept_on, term_is}
-use Rattle.lc_table.specs.declared.put_numbers.PutNumbers.{PutNumbers}
+use Rattle.lc_put.specs.declared.put_numbers.PutNumbers.{PutNumbers}
 use Rattle.lc_rider.specs.MarkStores.{CanStore}
 use Rattle.lc_rider.proofs.PathSteps.{puts-append}
 use Rattle.lc_rider.proofs.Saying.{said_is}
+use Rattle.lc_action.proofs.OwnUpdates.{no_terms}
 
 -- stores of some updates, and of others after them
 pub puts_joined : (σ ρ μ : ℕ → Column) (τ : List Term) (start : ℕ → Column) (us vs : List Update) → ρ ≡ puts start (map (said σ τ) us) → μ ≡ puts ρ (map (said σ τ) vs) → μ ≡ puts start (map (said σ τ) (us ++ vs))
@@ -54,16 +55,11 @@ cells_more σ τ cells values i d v ρ μ whole hc hv is e so =
     (drop_more values i v hv ∙ ap (λ (x : D.Term). x ∷ drop (i + 1) values) (sym is)))
     ∙ so
 
--- no value is left
-client_none : (cs : List ℕ) → at_client cs [] ≡ []
-client_none [] = refl
-client_none (c ∷ cs) = refl
-
 pub no_values : (σ : ℕ → Column) (τ : List Term) (cells : List ColId) (values : List D.Term) (i : ℕ) (ρ whole : ℕ → Column) → length values ≤ i →
     puts ρ (map (said σ τ) (at_client (map (λ (x : ColId). x.0) (drop i cells)) (map term_of (drop i values)))) ≡ whole → ρ ≡ whole
 no_values σ τ cells values i ρ whole past so =
     sym (ap (λ (vs : List D.Term). puts ρ (map (said σ τ) (at_client (map (λ (x : ColId). x.0) (drop i cells)) (map term_of vs)))) (drop_all i values past)
-    ∙ ap (λ (us : List Update). puts ρ (map (said σ τ) us)) (client_none (map (λ (x : ColId). x.0) (drop i cells))))
+    ∙ ap (λ (us : List Update). puts ρ (map (said σ τ) us)) (no_terms (map (λ (x : ColId). x.0) (drop i cells))))
     ∙ so
 
 -- an index and a value that are said by a later table, stored

@@ -2,7 +2,7 @@
 use Rattle.std.proofs.Common.{◌≡◌, List, [], ◌∷◌, map, refl, ap₂, ◌∙◌}
 use Rattle.lc_table.specs.NodeTables.{Table}
 use Rattle.lc_table.specs.Tables.{Keeps}
-use Rattle.lc_table.proofs.ByNumber.{are_columns_later, columns_still}
+use Rattle.lc_put.proofs.ByNumber.{are_columns_later, columns_still}
 use Rattle.lc_table.proofs.Later.{are_formulas_still, formulas_still, formula_still, is_formula_still}
 use Rattle.lc_rider.specs.Paths as S
 use Rattle.lc_rider.specs.DutyView.{Owed, owing_of, owed_in, AreGoals, duty_in}

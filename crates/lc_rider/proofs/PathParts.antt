@@ -3,7 +3,7 @@ use Rattle.std.proofs.Common.{◌≡◌, ℕ, List, [], ◌∷◌, ◌++◌, len
 use Rattle.std.proofs.lemmas.List.{length-map}
 use Rattle.lc_base.specs.declared.ids.ColId.{ColId}
 use Rattle.lc_table.specs.NodeTables.{Table}
-use Rattle.lc_table.specs.PutNumbers.{columns_at, AreColumns}
+use Rattle.lc_put.specs.PutNumbers.{columns_at, AreColumns}
 use Rattle.lc_term.specs.Syntax.{Column, Formula}
 use Rattle.lc_table.specs.Tables.{formula_in, formulas_in, AreFormulas, HasFormula, Keeps}
 use Rattle.lc_table.specs.declared.node.ColExprId.{ColExprId}

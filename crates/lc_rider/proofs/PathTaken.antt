@@ -8,7 +8,7 @@ use Rattle.lc_term.specs.Syntax.{Term, Variable, Number, Formula, Not}
 use Rattle.lc_term.specs.Meaning.{State, Env, outside, value, Holds}
 use Rattle.lc_term.specs.Truth.{truth}
 use Rattle.lc_term.specs.Lists.{Every, IsIn, concat_map}
-use Rattle.lc_term.specs.Said.{told, said, at_client, term_at}
+use Rattle.lc_term.specs.Said.{told, said, at_client}
 use Rattle.lc_term.specs.SystemColumns.{pend, op_column, rep_columns, noted, note_columns}
 use Rattle.lc_term.proofs.Truth.{Decides-truth}
 use Rattle.lc_term.proofs.Stores.{Every-append, Every-map, Every_left, Every_right, if_true, if_false, stored-append, writes_other, writes_away, cell_indexes}
@@ -25,7 +25,7 @@ use Rattle.lc_rider.proofs.Riding.{v, st, Facts, Lawful, terms, marked_variables
 
 -- ---- lists
 
-IsIn-append : {A : Type 0} (x : A) (xs ys : List A) → IsIn x (xs ++ ys) → IsIn x xs ⊎ IsIn x ys
+pub IsIn-append : {A : Type 0} (x : A) (xs ys : List A) → IsIn x (xs ++ ys) → IsIn x xs ⊎ IsIn x ys
 IsIn-append x [] ys h = inr h
 IsIn-append x (z ∷ xs) ys (inl e) = inl (inl e)
 IsIn-append x (z ∷ xs) ys (inr h) = elim (IsIn-append x xs ys h) [ inl a ↦ inl (inr a) | inr b ↦ inr b ]

@@ -3,20 +3,20 @@ use Rattle.std.proofs.Common.{◌≡◌, ◌==◌, ◌<◌, ◌≤◌, ◌+◌, 
 use Rattle.std.specs.Prelude.{slice_set, option_map}
 use Rattle.std.proofs.lemmas.List.{set_split, map-set, map-append, take_all}
 use Rattle.std.proofs.lemmas.Option.{slice_get-map, slice_get-get_or, slice_get_within}
+use Rattle.std.proofs.lemmas.Bool.{eqb-true}
 use Rattle.lc_base.specs.declared.ids.ColId.{ColId}
 use Rattle.lc_table.specs.NodeTables.{Table}
-use Rattle.lc_table.specs.Put.{column_at}
-use Rattle.lc_table.specs.PutNumbers.{entry_in, columns_at, AreColumns}
+use Rattle.lc_term.specs.Entries.{column_at}
+use Rattle.lc_put.specs.PutNumbers.{entry_in, columns_at, AreColumns}
 use Rattle.lc_term.specs.Said.{put}
 use Rattle.lc_term.specs.Syntax as S
 use Rattle.lc_table.specs.Nodes.{column, is_column}
 use Rattle.lc_table.specs.Tables.{term_in, column_in, IsTerm, IsColumn, HasColumn, Keeps}
 use Rattle.lc_table.specs.declared.node.ColExprId.{ColExprId}
 use Rattle.lc_table.specs.declared.node.TermId.{TermId}
-use Rattle.lc_table.proofs.ByNumber.{are_columns_later}
-use Rattle.lc_table.proofs.Entries.{IsAbsent, eq_true_same}
-use Rattle.lc_table.proofs.Later.{column_is, term_still}
-use Rattle.lc_table.proofs.NodeReplacement.{column_still}
+use Rattle.lc_put.proofs.ByNumber.{are_columns_later}
+use Rattle.lc_term.proofs.Entries.{IsAbsent}
+use Rattle.lc_table.proofs.Later.{column_is, term_still, column_still}
 use Rattle.lc_action.proofs.Columns.{put_in_place, put_behind}
 use Rattle.lc_rider.specs.Stored.{HasNone, IsFirst}
 
@@ -31,7 +31,7 @@ number_of p = p.0.0
 -- its first entry
 pub first_here : (ps : List Entry) (k c : ℕ) (d : Entry) → k < length ps → ((get_or ps k d).0.0 == c) ≡ true → HasNone c (take k ps) → IsFirst c ps k
 first_here ps k c d h at none = record {
-  there = slice_get-map (λ (q : Entry). q.0.0) ps k ∙ ap (option_map (λ (q : Entry). q.0.0)) (slice_get-get_or ps k d h) ∙ ap Some (eq_true_same (get_or ps k d).0.0 c at);
+  there = slice_get-map (λ (q : Entry). q.0.0) ps k ∙ ap (option_map (λ (q : Entry). q.0.0)) (slice_get-get_or ps k d h) ∙ ap Some (eqb-true (get_or ps k d).0.0 c at);
   before = none;
 }
 

@@ -4,13 +4,13 @@ use Rattle.std.proofs.lemmas.List.{drop_more, map-append}
 use Rattle.lc_base.specs.declared.ids.ColId.{ColId}
 use Rattle.lc_table.specs.NodeTables.{Table}
 use Rattle.lc_table.specs.Nodes.{term, is_term}
-use Rattle.lc_table.specs.PutNumbers.{columns_at, AreColumns, terms_in, AreTerms}
+use Rattle.lc_put.specs.PutNumbers.{columns_at, AreColumns, terms_in, AreTerms}
 use Rattle.lc_term.specs.Said.{reads}
 use Rattle.lc_term.specs.Syntax.{Term, Read, Column}
 use Rattle.lc_table.specs.Tables.{term_in, column_in, IsTerm, HasTerm, HasColumn, Keeps}
 use Rattle.lc_table.specs.declared.node.ColExprId.{ColExprId}
 use Rattle.lc_table.specs.declared.node.TermId.{TermId}
-use Rattle.lc_table.proofs.ByNumber.{are_terms_later, terms_still, columns_still}
+use Rattle.lc_put.proofs.ByNumber.{are_terms_later, terms_still, columns_still}
 use Rattle.lc_table.proofs.Later.{kept_on, term_still, column_is}
 
 pub has_is_term : (ts : Table) (k : TermId) (t : Term) → HasTerm ts k t → IsTerm ts k

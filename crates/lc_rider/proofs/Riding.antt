@@ -1,9 +1,10 @@
 -- Riders and paths: what the riders do goes along a path, and if what each path owes is met, the riders can be done.
-use Rattle.std.proofs.Common.{◌≡◌, ℕ, zero, suc, ◌+◌, ◌<◌, ◌≤◌, ◌⊎◌, ◌&&◌, if◌then◌else◌, Bool, true, false, List, [], ◌∷◌, ◌++◌, ℤ, pos, Option, Some, None, map, length, take, refl, sym, ap, ap₂, ◌∙◌, subst, inl, inr, arith}
+use Rattle.std.proofs.Common.{◌≡◌, ℕ, zero, suc, if◌then◌else◌, Bool, true, false, List, [], ◌∷◌, ◌++◌, ℤ, pos, Option, Some, None, map, take, refl, sym, ap, ap₂, ◌∙◌, subst, inl, inr}
 use Rattle.std.specs.List.{list_all}
 use Rattle.std.proofs.lemmas.List.{map-append, take-map}
 use Rattle.std.proofs.lemmas.Option.{same_Some}
 use mathlib.Core.Path.{fun_ext}
+use Rattle.lc_lemmas.proofs.Booleans.{left_true, right_true}
 use Rattle.lc_term.specs.Updates.{Update, Write, stored_all, write_of, writes_of, values_of, variable, row, cell_writes}
 use Rattle.lc_term.specs.Syntax.{formulas, Term, Number, Variable, Formula, Not}
 use Rattle.lc_term.specs.Meaning.{NoneHolds, State, Env, outside, value, Holds, EachHolds}
@@ -15,9 +16,8 @@ use Rattle.lc_seq.specs.Specification.{Branch, Operation, chosen}
 use Rattle.lc_seq.specs.TextStep.{run, call_env}
 use Rattle.lc_seq.proofs.Choosing.{chosen-map, given-map, chosen-every, resolved_behind}
 use Rattle.lc_term.specs.Lists.{Every, concat_map, numbered, concat_places}
-use Rattle.lc_term.proofs.Tests.{left_true, right_true}
 use Rattle.lc_seq.specs.Branches.{op_branches, arity}
-use Rattle.lc_term.specs.Said.{told, after, put, said, term_at, at_client}
+use Rattle.lc_term.specs.Said.{told, said, term_at, at_client}
 use Rattle.lc_term.specs.SystemColumns.{op_column, pend, arg_columns, rep_columns, noted, note_columns}
 use Rattle.lc_rider.specs.Rider.{Mark, Marking, Own, Other, Note, Deed, Assign, Marks, Rider, arguments_in, IsDone, IsDoneWhere, RideAll, mark_writes, note_writes}
 use Rattle.lc_rider.specs.Paths.{Path, Duty, observing_duty, is_empty, with_fact, branch_variables, mark_updates, marked_client, owing, mark_duties, branch_paths, deed_paths, deed_paths_where, rider_paths, paths}

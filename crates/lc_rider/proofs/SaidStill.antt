@@ -1,13 +1,13 @@
 -- What is said of the state before, with a path and variables as they were in a table before.
 use Rattle.std.proofs.Common.{List, subst}
 use Rattle.lc_table.specs.NodeTables.{Table}
-use Rattle.lc_table.specs.PutNumbers.{terms_in, AreTerms}
+use Rattle.lc_put.specs.PutNumbers.{terms_in, AreTerms}
 use Rattle.lc_term.specs.Replacement.{replacing, replace_term}
 use Rattle.lc_term.specs.Said.{term_at}
 use Rattle.lc_term.specs.Syntax.{Term}
 use Rattle.lc_table.specs.Tables.{HasTerm, Keeps}
 use Rattle.lc_table.specs.declared.node.TermId.{TermId}
-use Rattle.lc_table.proofs.ByNumber.{terms_still}
+use Rattle.lc_put.proofs.ByNumber.{terms_still}
 use Rattle.lc_rider.specs.PathView.{path_in, IsPath}
 use Rattle.lc_rider.specs.declared.path.Path.{Path}
 use Rattle.lc_rider.proofs.PathLater.{path_still}

@@ -2,10 +2,10 @@
 use Rattle.std.proofs.Common.{◌≡◌, ℕ, ◌+◌, ◌<◌, List, [], ◌∷◌, ◌++◌, length, map, drop, get_or, sym, subst, ap, ◌∙◌, append_assoc}
 use Rattle.std.proofs.lemmas.List.{drop_more}
 use Rattle.lc_table.specs.NodeTables.{Table}
-use Rattle.lc_table.specs.PutNumbers.{terms_in, AreTerms}
+use Rattle.lc_put.specs.PutNumbers.{terms_in, AreTerms}
 use Rattle.lc_table.specs.Tables.{HasTerm, Keeps}
 use Rattle.lc_table.specs.declared.node.TermId.{TermId}
-use Rattle.lc_table.proofs.ByNumber.{terms_still}
+use Rattle.lc_put.proofs.ByNumber.{terms_still}
 use Rattle.lc_table.proofs.Later.{term_is}
 use Rattle.lc_term.specs.Replacement.{replacing, replace_term}
 use Rattle.lc_term.specs.Said.{term_at}

@@ -2,7 +2,7 @@
 use Rattle.std.proofs.Common.{◌≡◌, List, refl, ap, ap₂, ◌∙◌}
 use Rattle.lc_base.specs.declared.ids.ColId.{ColId}
 use Rattle.lc_table.specs.NodeTables.{Table}
-use Rattle.lc_table.specs.PutNumbers.{columns_at, AreColumns, AreTerms, replacement_at}
+use Rattle.lc_put.specs.PutNumbers.{columns_at, AreColumns, AreTerms, replacement_at}
 use Rattle.lc_term.specs.Replacement.{Replacement, replace, replace_term}
 use Rattle.lc_term.specs.Said.{put}
 use Rattle.lc_term.specs.Syntax.{Term, Formula}
@@ -10,7 +10,7 @@ use Rattle.lc_table.specs.Tables.{term_in, formula_in, IsTerm, HasTerm, HasFormu
 use Rattle.lc_table.specs.declared.node.ColExprId.{ColExprId}
 use Rattle.lc_table.specs.declared.node.FormulaId.{FormulaId}
 use Rattle.lc_table.specs.declared.node.TermId.{TermId}
-use Rattle.lc_table.proofs.ByNumber.{columns_still, replacement_still}
+use Rattle.lc_put.proofs.ByNumber.{columns_still, replacement_still}
 use Rattle.lc_table.proofs.Later.{kept_on, term_is, term_still, formula_is}
 
 module _ (old new : Table) (ps qs : List (ColId × ColExprId)) (ks : List TermId) (columns : AreColumns old ps) (terms : AreTerms old ks) (kept : Keeps old new) (same : qs ≡ ps) where

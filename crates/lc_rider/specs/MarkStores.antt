@@ -2,9 +2,9 @@
 use Rattle.std.specs.Prelude.{◌≡◌, List, map}
 use Rattle.lc_base.specs.declared.ids.ColId.{ColId}
 use Rattle.lc_table.specs.NodeTables.{Table}
-use Rattle.lc_table.specs.PutNumbers.{columns_at, AreColumns, terms_in, AreTerms}
+use Rattle.lc_put.specs.PutNumbers.{columns_at, AreColumns, terms_in, AreTerms}
 use Rattle.lc_table.specs.declared.node.ColExprId.{ColExprId}
-use Rattle.lc_table.specs.declared.put_numbers.PutNumbers.{PutNumbers}
+use Rattle.lc_put.specs.declared.put_numbers.PutNumbers.{PutNumbers}
 use Rattle.lc_term.specs.Said.{puts, said}
 use Rattle.lc_term.specs.Updates.{Update}
 

@@ -2,7 +2,7 @@
 use Rattle.std.specs.Prelude.{◌≡◌, ℕ, List, [], ◌∷◌, ◌++◌, map}
 use Rattle.lc_term.specs.Lists.{Every}
 use Rattle.lc_table.specs.NodeTables.{Table}
-use Rattle.lc_table.specs.PutNumbers.{columns_at, AreColumns}
+use Rattle.lc_put.specs.PutNumbers.{columns_at, AreColumns}
 use Rattle.lc_term.specs.Syntax.{Column, Formula}
 use Rattle.lc_table.specs.Tables.{formulas_in, AreFormulas}
 use Rattle.lc_rider.specs.Paths as S

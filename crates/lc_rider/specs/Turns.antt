@@ -1,7 +1,7 @@
 -- The next rider, and the paths after it.
 use Rattle.std.specs.Prelude.{List}
 use Rattle.lc_table.specs.NodeTables.{Table}
-use Rattle.lc_table.specs.PutNumbers.{terms_in, AreTerms}
+use Rattle.lc_put.specs.PutNumbers.{terms_in, AreTerms}
 use Rattle.lc_seq.specs.TextView.{specification_of}
 use Rattle.lc_action.specs.ActionView.{first_of}
 use Rattle.lc_rider.specs.Paths as S

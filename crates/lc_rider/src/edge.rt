@@ -1,7 +1,7 @@
 //! An edge of an object's code with its riders, and the terms of its variables.
 ghost use Rattle.std.specs.Prelude.{◌≡◌, IfOk, map, slice_set};
 ghost use Rattle.lc_term.specs.Said.{variables_from};
-ghost use Rattle.lc_table.specs.PutNumbers.{columns_at, AreColumns};
+ghost use Rattle.lc_put.specs.PutNumbers.{columns_at, AreColumns};
 ghost use Rattle.lc_table.specs.Tables.{Keeps};
 ghost use Rattle.lc_term.specs.Updates.{assigned};
 ghost use Rattle.lc_term.specs.View.{term_of};

@@ -1,7 +1,7 @@
 //! The paths past the riders of an edge, one rider after the other.
 ghost use Rattle.std.specs.Prelude.{◌≡◌, IfOk, OnOk, map};
 ghost use Rattle.lc_term.specs.Lists.{concat_map};
-ghost use Rattle.lc_table.specs.PutNumbers.{terms_in, AreTerms};
+ghost use Rattle.lc_put.specs.PutNumbers.{terms_in, AreTerms};
 ghost use Rattle.lc_term.specs.Replacement.{replacing, replace_term};
 ghost use Rattle.lc_term.specs.Said.{put, said, term_at};
 ghost use Rattle.lc_table.specs.Tables.{Keeps};
@@ -27,6 +27,7 @@ use crate::path::Path;
 use crate::rider::{Choosing, Rider};
 use lc_action::SystemColumns;
 use lc_base::{OpId, OutOfMemory};
+use lc_put::enter_terms;
 use lc_seq::TextSpec;
 use lc_table::{TermId, Terms};
 use lc_term::{Term, Update};
@@ -262,7 +263,7 @@ pub fn paths(
     ensures kept { Keeps terms.old terms.new }
 {
     let variables = edge_variables(alloc, edge.variables, edge.code)?;
-    let variables = terms.enter_terms(alloc, &variables)?;
+    let variables = enter_terms(terms, alloc, &variables)?;
     let riding = Riding {
         specification,
         system: edge.system,

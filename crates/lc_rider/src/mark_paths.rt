@@ -1,6 +1,6 @@
 //! The paths past one mark, by the branches that its choice leaves.
 ghost use Rattle.std.specs.Prelude.{◌≡◌, IfOk, OnOk};
-ghost use Rattle.lc_table.specs.PutNumbers.{terms_in, AreTerms};
+ghost use Rattle.lc_put.specs.PutNumbers.{terms_in, AreTerms};
 ghost use Rattle.lc_table.specs.Tables.{term_in, formula_in, IsTerm, IsFormula, HasFormula, Keeps};
 ghost use Rattle.lc_term.specs.UpdateView.{updates_of};
 ghost use Rattle.lc_seq.specs.Branches.{op_branches};
@@ -48,7 +48,7 @@ fn with_named_duty(terms: &mut Terms, mark: Mark<'_>, path: Path) -> Result<Path
 }
 
 // What a mark asks for before one of these branches is taken.
-#[tactic(auto, using(lc_table::proofs::Later::kept_on, lc_table::proofs::Later::is_term_still, lc_table::proofs::Later::is_formula_later, lc_table::proofs::ByNumber::are_terms_later, crate::proofs::PathLater::is_path_later))]
+#[tactic(auto, using(lc_table::proofs::Later::kept_on, lc_table::proofs::Later::is_term_still, lc_table::proofs::Later::is_formula_later, lc_put::proofs::ByNumber::are_terms_later, crate::proofs::PathLater::is_path_later))]
 fn with_mark_duties(
     alloc: Global,
     terms: &mut Terms,
@@ -120,7 +120,7 @@ fn taken(
 }
 
 // Appends a path for each branch: the guards of the branches before it fail, and its own holds.
-#[tactic(auto, using(lc_table::proofs::Later::kept_on, lc_table::proofs::Later::is_term_still, lc_table::proofs::Later::is_formula_later, lc_table::proofs::ByNumber::are_terms_later, crate::proofs::PathLater::is_path_later))]
+#[tactic(auto, using(lc_table::proofs::Later::kept_on, lc_table::proofs::Later::is_term_still, lc_table::proofs::Later::is_formula_later, lc_put::proofs::ByNumber::are_terms_later, crate::proofs::PathLater::is_path_later))]
 fn branch_paths(
     alloc: Global,
     terms: &mut Terms,

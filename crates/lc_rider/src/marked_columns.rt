@@ -1,6 +1,6 @@
 //! The columns after a mark.
 ghost use Rattle.std.specs.Prelude.{◌≡◌, IfOk, OnOk, map};
-ghost use Rattle.lc_table.specs.PutNumbers.{columns_at, AreColumns, terms_in, AreTerms};
+ghost use Rattle.lc_put.specs.PutNumbers.{columns_at, AreColumns, terms_in, AreTerms};
 ghost use Rattle.lc_term.specs.Said.{after, at_client};
 ghost use Rattle.lc_term.specs.Syntax as T;
 ghost use Rattle.lc_table.specs.Tables.{term_in, Keeps};
@@ -19,8 +19,9 @@ use crate::path::Path;
 use crate::stored::store_value;
 use lc_action::SystemColumns;
 use lc_base::{ColId, OutOfMemory};
+use lc_put::{PutNumbers, put_in_term};
 use lc_seq::Branch;
-use lc_table::{ColExprId, PutNumbers, TermId, Terms};
+use lc_table::{ColExprId, TermId, Terms};
 use lc_term::{Term, Update};
 use std::alloc::Global;
 
@@ -39,7 +40,7 @@ fn store_updates(
 {
     for update in updates {
         let index = terms.enter_term(&update.index)?;
-        let index = terms.put_in_term(alloc, before, index)?;
+        let index = put_in_term(terms, alloc, before, index)?;
         store_value(
             alloc,
             terms,
@@ -68,7 +69,7 @@ fn store_own(
     ensures kept { Keeps terms.old terms.new }
 {
     let client = terms.variable(1)?;
-    let client = terms.put_in_term(alloc, before, client)?;
+    let client = put_in_term(terms, alloc, before, client)?;
     for (i, cell) in cells.iter().enumerate() {
         let Some(value) = values.get(i) else {
             return Ok(());

@@ -1,6 +1,6 @@
 //! Which call a mark marks.
 ghost use Rattle.std.specs.Prelude.{◌≡◌, ◌++◌, IfOk, OnOk, map};
-ghost use Rattle.lc_table.specs.PutNumbers.{columns_at, AreColumns, terms_in, AreTerms};
+ghost use Rattle.lc_put.specs.PutNumbers.{columns_at, AreColumns, terms_in, AreTerms};
 ghost use Rattle.lc_term.specs.Said.{told, reads};
 ghost use Rattle.lc_term.specs.Syntax.{Eq, Number, Or, Read, Term, formulas};
 ghost use Rattle.lc_table.specs.Tables.{term_in, formulas_in, IsTerm, AreFormulas, HasFormula, Keeps};
@@ -18,6 +18,7 @@ use crate::path::Path;
 use crate::rider::Choosing;
 use lc_action::SystemColumns;
 use lc_base::{ColId, OpId, OutOfMemory};
+use lc_put::stored_column;
 use lc_seq::{Branch, TextSpec};
 use lc_table::{ColExprId, FormulaId, TermId, Terms};
 use std::alloc::Global;
@@ -100,7 +101,7 @@ fn push_reads(
     ensures kept { Keeps terms.old terms.new }
 {
     for cell in cells {
-        let column = terms.stored_column(columns, *cell)?;
+        let column = stored_column(terms, columns, *cell)?;
         let cell = terms.read(column, client)?;
         read.push(cell)?;
     }
@@ -208,7 +209,7 @@ pub(crate) fn cell_is(
     ensures id { IfOk result (λ k. HasFormula terms.new k (Eq (Read ((path_in terms.old path.now).columns column.0) (term_in terms.old index)) (Number number))) }
     ensures kept { Keeps terms.old terms.new }
 {
-    let column = terms.stored_column(path.columns(), column)?;
+    let column = stored_column(terms, path.columns(), column)?;
     let cell = terms.read(column, index)?;
     let number = terms.number(number)?;
     terms.eq(cell, number)

@@ -5,7 +5,8 @@ ghost use Rattle.lc_rider.specs.DutyView.{AreKnown, known_once};
 use crate::duty::{Duty, Owing};
 use crate::stored::store_in;
 use lc_base::{ColId, OutOfMemory};
-use lc_table::{ColExprId, FormulaId, PutNumbers, TermId, Terms, nothing_replaced};
+use lc_put::{PutNumbers, nothing_replaced, put_in_formula, put_in_term};
+use lc_table::{ColExprId, FormulaId, TermId, Terms};
 use lc_term::{Formula, Term};
 use std::alloc::Global;
 
@@ -31,7 +32,7 @@ impl Drop for Path {
 impl Path {
     ghost use Rattle.std.specs.Prelude.{◌≡◌, [], IfOk, length, map};
     ghost use Rattle.lc_table.specs.NodeTables.{Table};
-    ghost use Rattle.lc_table.specs.PutNumbers.{columns_at, AreColumns, terms_in, AreTerms};
+    ghost use Rattle.lc_put.specs.PutNumbers.{columns_at, AreColumns, terms_in, AreTerms};
     ghost use Rattle.lc_term.specs.Replacement.{replacing, replace_term};
     ghost use Rattle.lc_term.specs.Said.{put, term_at, told};
     ghost use Rattle.lc_term.specs.Syntax as T;
@@ -84,7 +85,7 @@ impl Path {
     {
         let columns = &self.columns;
         let term = terms.enter_term(term)?;
-        terms.put_in_term(alloc, PutNumbers { columns, variables }, term)
+        put_in_term(terms, alloc, PutNumbers { columns, variables }, term)
     }
 
     // A formula, said in the state before the edge.
@@ -103,7 +104,13 @@ impl Path {
         let columns = &self.columns;
         let formula = terms.enter_formula(alloc, formula)?;
         let mut done = nothing_replaced(alloc);
-        terms.put_in_formula(alloc, PutNumbers { columns, variables }, &mut done, formula)
+        put_in_formula(
+            terms,
+            alloc,
+            PutNumbers { columns, variables },
+            &mut done,
+            formula,
+        )
     }
 
     // The path that has these columns, and on which nothing is known and asked for.

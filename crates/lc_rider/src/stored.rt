@@ -1,6 +1,6 @@
 //! Stores into columns that are kept by their numbers.
 ghost use Rattle.std.specs.Prelude.{◌≡◌, IfNone, IfSome, OnOk, OnErr};
-ghost use Rattle.lc_table.specs.PutNumbers.{columns_at, AreColumns, AreTerms, replacement_at};
+ghost use Rattle.lc_put.specs.PutNumbers.{columns_at, AreColumns, AreTerms, replacement_at};
 ghost use Rattle.lc_term.specs.Replacement.{replace_term};
 ghost use Rattle.lc_term.specs.Said.{put};
 ghost use Rattle.lc_table.specs.Tables.{term_in, IsTerm, Keeps};
@@ -8,7 +8,8 @@ ghost use Rattle.lc_term.specs.View.{term_of};
 ghost use Rattle.lc_rider.specs.Stored.{HasNone, IsFirst};
 
 use lc_base::{ColId, OutOfMemory};
-use lc_table::{ColExprId, PutNumbers, TermId, Terms};
+use lc_put::{PutNumbers, put_in_term};
+use lc_table::{ColExprId, TermId, Terms};
 use lc_term::Term;
 use std::alloc::Global;
 
@@ -76,6 +77,6 @@ pub(crate) fn store_value(
     ensures kept { Keeps terms.old terms.new }
 {
     let value = terms.enter_term(value)?;
-    let value = terms.put_in_term(alloc, before, value)?;
+    let value = put_in_term(terms, alloc, before, value)?;
     store_in(terms, columns, column, index, value)
 }

@@ -1,8 +1,9 @@
 -- Updates, conjuncts, riders, and what is done at edges, if they are read, use only what is in scope.
-use Rattle.std.proofs.Common.{◌≡◌, ℕ, ◌+◌, ◌<◌, Bool, true, List, [], Option, Some, None, length, refl, arith}
-use Rattle.std.proofs.lemmas.Bool.Decides.{nat_tests}
+use Rattle.std.proofs.Common.{◌≡◌, ℕ, ◌+◌, Bool, true, List, [], Option, Some, None, length, refl}
 use Rattle.std.specs.List.{list_all}
 use Rattle.std.specs.Prelude.{nat_lt}
+use Rattle.std.proofs.lemmas.Bool.{and_from}
+use Rattle.lc_lemmas.proofs.Numbers.{test_from_below}
 use Rattle.lc_base.specs.NameText.{is_name}
 use Rattle.lc_base.specs.Limits.{path_limit}
 use Rattle.lc_sexp.specs.Trees.{Tree, Trees, atom, list, none, ◌▸◌, item_count}
@@ -10,7 +11,7 @@ use Rattle.lc_object.specs.declared.instr.EdgeKind.{EdgeKind}
 use Rattle.lc_object_text.specs.Rows.{cons}
 use Rattle.lc_outline.specs.Development.{On}
 use Rattle.lc_outline.specs.Scope.{is_scoped, deed_is_scoped, rider_is_scoped, on_is_scoped}
-use Rattle.lc_reading.proofs.Holding.{Holds, holds_unit, holds_weaker, mapped_holds, both_holds, three_holds, ended_holds, limited_holds, if_holds, listed_holds, behind_holds, each_holds, counted_holds, and_true}
+use Rattle.lc_reading.proofs.Holding.{Holds, holds_unit, holds_weaker, mapped_holds, both_holds, three_holds, ended_holds, limited_holds, if_holds, listed_holds, behind_holds, each_holds, counted_holds}
 use Rattle.lc_reading.specs.Naming.{within, name_reading, use_reading}
 use Rattle.lc_reading.specs.Readings.{fine, wrong}
 use Rattle.lc_reading.specs.Words.{is, is_long}
@@ -50,9 +51,6 @@ column_total d = column_count (length d.columns)
 
 -- ---- updates
 
-below_test : (k n : ℕ) → k < n → nat_lt k n ≡ true
-below_test k n h = grind (arith, nat_tests)
-
 -- a column that is stored in is one that there is
 abbrev IsThere : Known → ℕ → Type 0
 IsThere d k = nat_lt k (column_total d) ≡ true
@@ -60,7 +58,7 @@ IsThere d k = nat_lt k (column_total d) ≡ true
 stored_there : (stores : Stores) (d : Known) (n : ℕ) (w : List ℕ) (o : Option ℕ) → column_place d.columns w ≡ o → Holds (IsThere d) (stored stores d n w o)
 stored_there stores d n w None e = tt
 stored_there stores d n w (Some k) e =
-    if_holds (IsThere d) (is_open stores d k) (within n w k) (wrong Shape n) (if_holds (IsThere d) (is_long w) (wrong Bound n) (fine k) tt (below_test k (column_total d) (column_below d.columns w k e))) tt
+    if_holds (IsThere d) (is_open stores d k) (within n w k) (wrong Shape n) (if_holds (IsThere d) (is_long w) (wrong Bound n) (fine k) tt (test_from_below k (column_total d) (column_below d.columns w k e))) tt
 
 column_there : (stores : Stores) (d : Known) (n : ℕ) (t : Tree) → Holds (IsThere d) (stored_reading stores d n t)
 column_there stores d n (atom w) = if_holds (IsThere d) (is_name w) _ (wrong Shape n) (stored_there stores d n w (column_place d.columns w) refl) tt
@@ -78,7 +76,7 @@ update_scoped stores d variables names all n m (t ▸ u ▸ v ▸ ts) =
     (ended_holds P _ ts _
     (three_holds (IsThere d) IsKnown IsKnown P triple _ _ _
     (column_there stores d m t) (term_known (column_total d) variables names all (m + item_count t) u) (term_known (column_total d) variables names all (m + item_count t + item_count u) v)
-    (λ k i x h g e. and_true (nat_lt k (column_total d)) _ h (and_true (term_passes (known (column_total d) variables) i) (term_passes (known (column_total d) variables) x) g e))))
+    (λ k i x h g e. and_from (nat_lt k (column_total d)) _ h (and_from (term_passes (known (column_total d) variables) i) (term_passes (known (column_total d) variables) x) g e))))
     (λ p h. h)
 
 -- ---- conjuncts
@@ -151,7 +149,7 @@ module _ (d : Known) (others : Option (List (List ℕ))) where
       both_holds (λ x. term_is_known x ≡ true) (λ k. Unit {0}) IsClientKnown pair _ (use_reading d.operations l u) (term_known columns count names all m t) (holds_unit (use_reading d.operations l u)) (λ x k h g. h)
 
   other_scoped : (p : Term × ℕ) (by : Chosen Term) → IsClientKnown p → AreGivenKnown by → IsDeed (mark_of_other p by)
-  other_scoped p by h g = and_true (term_is_known p.0) (list_all term_is_known (given_in by)) h g
+  other_scoped p by h g = and_from (term_is_known p.0) (list_all term_is_known (given_in by)) h g
 
   lin_other_scoped : (n m : ℕ) (ts : Trees) → Holds IsDeed (lin_other_reading d names n m ts)
   lin_other_scoped n m none = tt
@@ -197,7 +195,7 @@ module _ (d : Known) (others : Option (List (List ℕ))) where
   when_scoped own n m (t ▸ u ▸ ts) =
       ended_holds IsConditional _ ts _
       (both_holds (λ f. is_scoped columns count f ≡ true) IsDeed IsConditional pair _ _ (formula_scoped columns count (quiet names) (quiet_in_scope columns count names all) m t) (deed_scoped own (m + item_count t) u)
-      (λ f x h g. and_true (is_scoped columns count f) (deed_is_scoped columns count x) h g))
+      (λ f x h g. and_from (is_scoped columns count f) (deed_is_scoped columns count x) h g))
 
   rider_scoped : (own : Option Ways) (n : ℕ) (t : Tree) → Holds IsRider (rider_reading d names own n t)
   rider_scoped own n (atom w) = tt
@@ -234,11 +232,11 @@ module _ (d : Known) (others : Option (List (List ℕ))) where
       (limited_holds IsOn (nat_lt path_limit (path_count d own ts)) n _
       (both_holds (λ (p : EdgeKind × (ℕ × List Term)). AreKnown p.1.1) (λ rs. list_all (rider_is_scoped columns count) rs ≡ true) IsOn the_on _ _
       (step_known m t (m + item_count t) u) (riders_scoped own (m + item_count t + item_count u) ts)
-      (λ p rs h g. and_true (list_all term_is_known p.1.1) (list_all (rider_is_scoped columns count) rs) h g)))
+      (λ p rs h g. and_from (list_all term_is_known p.1.1) (list_all (rider_is_scoped columns count) rs) h g)))
 
   pub ons_scoped : (own : Option Ways) (edges : Edges) (m : ℕ) (ts : Trees) → Holds (λ xs. list_all (on_is_scoped columns count) xs ≡ true) (ons_reading d names own edges m ts)
   ons_scoped own edges m none = refl
   ons_scoped own edges m (t ▸ ts) =
       both_holds IsOn (λ xs. list_all (on_is_scoped columns count) xs ≡ true) (λ xs. list_all (on_is_scoped columns count) xs ≡ true) cons (on_reading d names own edges m t) _
       (behind_holds IsOn _ (on_parts_reading d names own edges) m t (parts_scoped own edges)) (ons_scoped own (without edges (edge_in t)) (m + item_count t) ts)
-      (λ x xs h g. and_true (on_is_scoped columns count x) (list_all (on_is_scoped columns count) xs) h g)
+      (λ x xs h g. and_from (on_is_scoped columns count x) (list_all (on_is_scoped columns count) xs) h g)

@@ -4,6 +4,7 @@ use Rattle.std.proofs.lemmas.Bool.{eq-eqb, eqb-true}
 use Rattle.std.proofs.lemmas.Option.{slice_get-get_or}
 use Rattle.std.specs.List.{list_all}
 use Rattle.std.specs.Prelude.{slice_get}
+use Rattle.lc_lemmas.proofs.Booleans.{not_true}
 use Rattle.lc_base.specs.NameText.{is_name}
 use Rattle.lc_sexp.specs.Trees.{Trees, atom, list, none, ◌▸◌, item_count}
 use Rattle.lc_outline.specs.Resolved.{has_some}
@@ -106,10 +107,6 @@ pub by_known : (names : Names) (ways : Option Ways) (n m : ℕ) (ts : Trees) →
 by_known names ways n m ts = if_holds (IsByName ways) (may_go_in_order ways) (wrong Shape n) _ tt (choice_known names ways n m ts)
 
 -- ---- the branches that are left
-
-not_true : (b : Bool) → not b ≡ true → b ≡ false
-not_true true e = absurd (cc)
-not_true false e = refl
 
 -- all of them if no choice is named
 all_left : (w : Ways) (bs : List Branch) → GoesSo w bs → (by : Chosen Term) → IsInOrder (Some w) by → chosen by bs ≡ bs

@@ -1,8 +1,9 @@
 -- Where no quantifier is allowed, a formula has none.
 use Rattle.std.proofs.Common.{◌≡◌, ℕ, true, [], Option, Some, None, IfSome, refl}
+use Rattle.std.proofs.lemmas.Bool.{and_from}
 use Rattle.lc_sexp.specs.Trees.{Tree}
 use Rattle.lc_reading.specs.Readings.{fine}
-use Rattle.lc_reading.proofs.Holding.{Holds, holds_of_fine, and_true}
+use Rattle.lc_reading.proofs.Holding.{Holds, holds_of_fine}
 use Rattle.lc_term.specs.Syntax.{Formula}
 use Rattle.lc_term.specs.Truth.{is_ground, are_ground}
 use Rattle.lc_text.specs.Formulas.{formula_reading}
@@ -38,9 +39,9 @@ kept names = record {
   negations = λ f h. h;
   conjunctions = λ fs h. h;
   disjunctions = λ fs h. h;
-  implications = λ f g h k. and_true (is_ground f) (is_ground g) h k;
+  implications = λ f g h k. and_from (is_ground f) (is_ground g) h k;
   no_parts = refl;
-  more_parts = λ f fs h k. and_true (is_ground f) (are_ground fs) h k;
+  more_parts = λ f fs h k. and_from (is_ground f) (are_ground fs) h k;
 }
 
 pub quiet_holds : (names : Names) (n : ℕ) (t : Tree) → Holds (λ f. is_ground f ≡ true) (formula_reading (quiet names) [] n t)

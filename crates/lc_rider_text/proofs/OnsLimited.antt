@@ -1,7 +1,7 @@
 -- What is read at an edge is within its limits.
 use Rattle.std.proofs.Common.{◌≡◌, ℕ, ◌+◌, ◌<◌, ◌≤◌, Bool, true, false, List, Option, length, refl, sym, subst, arith}
-use Rattle.std.proofs.lemmas.Bool.Decides.{nat_tests}
 use Rattle.std.specs.Prelude.{nat_lt}
+use Rattle.lc_lemmas.proofs.Numbers.{at_most_from_test}
 use Rattle.lc_base.specs.Limits.{path_limit, rider_limit}
 use Rattle.lc_sexp.specs.Trees.{Tree, Trees, none, ◌▸◌, item_count}
 use Rattle.lc_outline.specs.Development.{On}
@@ -33,12 +33,9 @@ IsPlaced i t r = i < rider_limit
 few_riders : (d : Known) (names : Names) (own : Option Ways) (m : ℕ) (ts : Trees) → Holds (λ rs. length rs ≤ rider_limit) (riders_reading d names own m ts)
 few_riders d names own m ts =
     holds_weaker (Each IsPlaced 0 ts) (λ rs. length rs ≤ rider_limit) (riders_reading d names own m ts) (λ rs h. omega (arith, each_few IsPlaced rider_limit (λ i t r below. below) 0 ts rs (omega arith) h))
-    (placed_holds IsPlaced (ith_rider_reading d names own) (λ i n t. limited_below 6 i n (rider_reading d names own n t)) 0 m ts)
+    (placed_holds IsPlaced (ith_rider_reading d names own) (λ i n t. limited_below rider_limit i n (rider_reading d names own n t)) 0 m ts)
 
 -- ---- paths
-
-few_of : (k limit : ℕ) → nat_lt limit k ≡ false → k ≤ limit
-few_of k limit e = grind (arith, nat_tests)
 
 -- what holds if no limit is passed
 within_limit : {X : Type 0} (P : X → Type 0) (b : Bool) (n : ℕ) (r : Reading X) → (b ≡ false → Holds P r) → Holds P (limited b n r)
@@ -61,7 +58,7 @@ paths_few d operations own o w names edges n m (t ▸ u ▸ ts) =
     if_holds P (is_refused edges (edge_of t)) (wrong Shape n) _ tt
     (within_limit P (nat_lt path_limit (path_count d own ts)) n (both the_on step riders)
     (λ few. both_holds (λ p. Unit {0}) (λ rs. path_total operations o rs ≡ path_count d own ts) P the_on step riders (holds_unit step) (row_counted d operations own o w names 0 (m + item_count t + item_count u) ts)
-    (λ p rs h g. subst (λ k. k ≤ path_limit) (sym g) (few_of (path_count d own ts) path_limit few))))
+    (λ p rs h g. subst (λ k. k ≤ path_limit) (sym g) (at_most_from_test (path_count d own ts) path_limit few))))
 
 riders_few : (d : Known) (names : Names) (own : Option Ways) (edges : Edges) (n m : ℕ) (ts : Trees) → Holds (λ (x : On). length x.riders ≤ rider_limit) (on_parts_reading d names own edges n m ts)
 riders_few d names own edges n m none = tt

@@ -1,37 +1,19 @@
 -- The places of names that are in two tables, one after the other.
-use Rattle.std.proofs.Common.{◌≡◌, ℕ, suc, ◌+◌, ◌<◌, ◌≤◌, ◌^◌, Bool, true, false, cond, List, [], ◌∷◌, ◌++◌, length, length-append, Option, Some, None, refl, sym, ap, subst, ◌∙◌, arith}
+use Rattle.std.proofs.Common.{◌≡◌, ℕ, ◌+◌, ◌<◌, ◌≤◌, ◌^◌, List, length, length-append, Option, Some, None, sym, ap, subst, ◌∙◌, arith}
 use Rattle.std.specs.Borrow.{Bor}
 use Rattle.std.specs.Option.{option_or}
 use Rattle.std.specs.Prelude.{option_map}
-use Rattle.lc_reading.proofs.Places.{place_below}
+use Rattle.lc_reading.proofs.Places.{place_below, place_behind}
 use Rattle.lc_reading.specs.Listed.{place_of}
 use Rattle.lc_reading.specs.TableView.{listed}
-use Rattle.lc_reading.specs.Words.{is}
 use Rattle.lc_reading.specs.declared.table.NameTable.{NameTable}
 use Rattle.lc_rider_text.specs.Tables.{listed_before, count_there}
-
-behind_none : (o : Option ℕ) → o ≡ option_map (λ k. 0 + k) o
-behind_none None = refl
-behind_none (Some k) = ap Some (let same : k ≡ 0 + k = omega arith in same)
-
-behind_one : (n : ℕ) (here : Bool) (o p : Option ℕ)
-    → cond here (Some 0) (option_map suc (option_or o (option_map (λ k. n + k) p))) ≡ option_or (cond here (Some 0) (option_map suc o)) (option_map (λ k. suc n + k) p)
-behind_one n true o p = refl
-behind_one n false (Some k) p = refl
-behind_one n false None None = refl
-behind_one n false None (Some k) = ap Some (let same : suc (n + k) ≡ suc n + k = omega arith in same)
-
--- the place of a name if some come after others
-pub place_of-append : (vs ws : List (List ℕ)) (w : List ℕ) → place_of (vs ++ ws) w ≡ option_or (place_of vs w) (option_map (λ k. length vs + k) (place_of ws w))
-place_of-append [] ws w = behind_none (place_of ws w)
-place_of-append (v ∷ vs) ws w =
-    ap (λ o. cond (is w v) (Some 0) (option_map suc o)) (place_of-append vs ws w) ∙ behind_one (length vs) (is w v) (place_of vs w) (place_of ws w)
 
 -- a name of the first has its place there
 pub placed_first : (vs : List (List ℕ)) (second : Option (Bor NameTable)) (w : List ℕ) (k : ℕ) → place_of vs w ≡ Some k → Some k ≡ place_of (listed_before vs second) w
 placed_first vs None w k e = sym e
 placed_first vs (Some table) w k e =
-    sym (place_of-append vs (listed table.now) w ∙ ap (λ o. option_or o (option_map (λ j. length vs + j) (place_of (listed table.now) w))) e)
+    sym (place_behind vs (listed table.now) w ∙ ap (λ o. option_or o (option_map (λ j. length vs + j) (place_of (listed table.now) w))) e)
 
 -- and another name has its place in the second, counted after the first
 pub placed_second : (vs : List (List ℕ)) (second : Option (Bor NameTable)) (table : Bor NameTable) (w : List ℕ) (o : Option ℕ) → second ≡ Some table → place_of vs w ≡ None → place_of (listed table.now) w ≡ o
@@ -40,7 +22,7 @@ placed_second vs second table w o there e g =
     let ws = listed table.now in (
     ap (option_map (λ k. length vs + k)) (sym g)
     ∙ ap (λ p. option_or p (option_map (λ k. length vs + k) (place_of ws w))) (sym e)
-    ∙ sym (place_of-append vs ws w)
+    ∙ sym (place_behind vs ws w)
     ∙ ap (λ t. place_of (listed_before vs t) w) (sym there)
     )
 

@@ -1,14 +1,15 @@
 -- Terms and formulas that are read use only the columns and variables that their names give, and bound variables of quantifiers
 -- around them.
 use Rattle.std.proofs.Common.{◌≡◌, ℕ, ℤ, suc, ◌+◌, ◌<◌, Bool, true, false, ◌&&◌, cond, List, [], ◌∷◌, ◌++◌, Option, Some, None, IfSome, length, length-append, refl, arith}
-use Rattle.std.proofs.lemmas.Bool.Decides.{nat_tests}
 use Rattle.std.specs.Prelude.{codes, not, nat_lt}
+use Rattle.std.proofs.lemmas.Bool.{and_from}
+use Rattle.lc_lemmas.proofs.Numbers.{test_from_below}
 use Rattle.lc_base.specs.NameText.{is_name}
 use Rattle.lc_sexp.specs.Parts.{Fit, fits, beyond, misshapen, integer_fit}
 use Rattle.lc_sexp.specs.Trees.{Tree, Trees, atom, list, none, ◌▸◌, item_count}
 use Rattle.lc_outline.proofs.Scoped.{scoped_term}
 use Rattle.lc_outline.specs.Scope.{scope, is_scoped}
-use Rattle.lc_reading.proofs.Holding.{Holds, holds_unit, holds_weaker, mapped_holds, both_holds, ended_holds, if_holds, and_true}
+use Rattle.lc_reading.proofs.Holding.{Holds, holds_unit, holds_weaker, mapped_holds, both_holds, ended_holds, if_holds}
 use Rattle.lc_reading.proofs.Places.{place_below}
 use Rattle.lc_reading.specs.Listed.{place_of}
 use Rattle.lc_reading.specs.Readings.{Reading, fine, wrong}
@@ -27,9 +28,6 @@ use Rattle.lc_text.specs.declared.scope.ColumnUse.{ColumnUse}
 use Rattle.lc_text.specs.declared.scope.ColumnUse.TheVariants.{Usable, Misplaced, Hidden, Undeclared}
 use Rattle.lc_text.specs.declared.scope.Extra.TheVariants.{Quantifiers, BuiltColumns, NumberedVariables}
 use Rattle.lc_rider_text.specs.Scopes.{variable_names, column_at, column_place, place_or, beside_names, quiet}
-
-below_test : (k n : ℕ) → k < n → nat_lt k n ≡ true
-below_test k n h = grind (arith, nat_tests)
 
 -- the column is one of the first `columns`, if it may be used
 abbrev IsColumnOf : ℕ → ColumnUse → Type 0
@@ -71,11 +69,11 @@ module _ (columns variables : ℕ) (names : Names) (all : AreInScope columns var
   AreFormulas d fs = all_pass (scope columns variables) d fs ≡ true
 
   two_terms : (d : ℕ) (t u : Term) → IsTerm d t → IsTerm d u → (term_passes (scope columns variables d) t && term_passes (scope columns variables d) u) ≡ true
-  two_terms d t u h g = and_true (term_passes (scope columns variables d) t) (term_passes (scope columns variables d) u) h g
+  two_terms d t u h g = and_from (term_passes (scope columns variables d) t) (term_passes (scope columns variables d) u) h g
 
   variable_scoped : (bound : List (List ℕ)) (d n : ℕ) (w : List ℕ) (o free : Option ℕ) → length bound ≡ d → bound_index bound w ≡ o → IfSome free (λ k. nat_lt k variables ≡ true)
       → Holds (IsTerm d) (bound_or_free n w o free)
-  variable_scoped bound d n w (Some k) free long at h = let lt = bound_below bound w k at in if_holds (IsTerm d) (is_long w) (wrong _ n) (fine (T.Bound k)) tt (below_test k d (omega (arith, lt, long)))
+  variable_scoped bound d n w (Some k) free long at h = let lt = bound_below bound w k at in if_holds (IsTerm d) (is_long w) (wrong _ n) (fine (T.Bound k)) tt (test_from_below k d (omega (arith, lt, long)))
   variable_scoped bound d n w None (Some k) long at h = if_holds (IsTerm d) (is_long w) (wrong _ n) (fine (T.Variable k)) tt h
   variable_scoped bound d n w None None long at h = tt
 
@@ -110,7 +108,7 @@ module _ (columns variables : ℕ) (names : Names) (all : AreInScope columns var
       (mapped_holds (λ p. IsTerm d p.0 × IsTerm d p.1) (IsTerm d) _ terms h (λ p u. two_terms d p.0 p.1 u.0 u.1))
       (mapped_holds (λ p. IsTerm d p.0 × IsTerm d p.1) (IsTerm d) _ terms h (λ p u. two_terms d p.0 p.1 u.0 u.1))
       (mapped_holds (λ p. IsTerm d p.1) (IsTerm d) product_of product g (λ p u. u))
-      (mapped_holds (λ p. IsColumn d p.0 × IsTerm d p.1) (IsTerm d) access_of access k (λ p u. and_true (column_passes (scope columns variables d) p.0) (term_passes (scope columns variables d) p.1) u.0 u.1)) tt
+      (mapped_holds (λ p. IsColumn d p.0 × IsTerm d p.1) (IsTerm d) access_of access k (λ p u. and_from (column_passes (scope columns variables d) p.0) (term_passes (scope columns variables d) p.1) u.0 u.1)) tt
 
   mutual
     term_in : (bound : List (List ℕ)) (d n : ℕ) (t : Tree) → length bound ≡ d → Holds (IsTerm d) (term_reading names bound n t)
@@ -155,7 +153,7 @@ module _ (columns variables : ℕ) (names : Names) (all : AreInScope columns var
       (mapped_holds (AreFormulas d) (IsFormula d) _ any i (λ fs u. u))
       (four (λ o. Holds (IsFormula d) (connective_reading n (allowed quantifiers o) terms one any two body)) (is w (codes "or")) (is w (codes "=>")) (is w (codes "forall")) (is w (codes "exists")) _ _ _ _ _
       (mapped_holds (AreFormulas d) (IsFormula d) _ any i (λ fs u. u))
-      (mapped_holds (λ p. IsFormula d p.0 × IsFormula d p.1) (IsFormula d) implication_of two j (λ p u. and_true (passes (scope columns variables) d p.0) (passes (scope columns variables) d p.1) u.0 u.1))
+      (mapped_holds (λ p. IsFormula d p.0 × IsFormula d p.1) (IsFormula d) implication_of two j (λ p u. and_from (passes (scope columns variables) d p.0) (passes (scope columns variables) d p.1) u.0 u.1))
       (choice (λ o. Holds (IsFormula d) (connective_reading n o terms one any two body)) (not quantifiers) None _ tt (mapped_holds (IsFormula (suc d)) (IsFormula d) _ body k (λ f u. u)))
       (choice (λ o. Holds (IsFormula d) (connective_reading n o terms one any two body)) (not quantifiers) None _ tt (mapped_holds (IsFormula (suc d)) (IsFormula d) _ body k (λ f u. u))) tt)
 
@@ -196,7 +194,7 @@ module _ (columns variables : ℕ) (names : Names) (all : AreInScope columns var
     formulas_in bound d m none long = refl
     formulas_in bound d m (t ▸ ts) long =
         both_holds (IsFormula d) (AreFormulas d) (AreFormulas d) T.more (formula_reading names bound m t) (formulas_reading names bound (m + item_count t) ts)
-        (formula_in bound d m t long) (formulas_in bound d (m + item_count t) ts long) (λ f fs h g. and_true (passes (scope columns variables) d f) (all_pass (scope columns variables) d fs) h g)
+        (formula_in bound d m t long) (formulas_in bound d (m + item_count t) ts long) (λ f fs h g. and_from (passes (scope columns variables) d f) (all_pass (scope columns variables) d fs) h g)
 
   -- ---- below no quantifier
 
@@ -214,7 +212,7 @@ variable_total others = length (variable_names others)
 
 placed_in : (n : ℕ) (o : Option ℕ) → ((k : ℕ) → o ≡ Some k → k < n) → IfSome o (λ k. nat_lt k n ≡ true)
 placed_in n None h = tt
-placed_in n (Some k) h = below_test k n (h k refl)
+placed_in n (Some k) h = test_from_below k n (h k refl)
 
 or_below : (n k : ℕ) (o p : Option ℕ) → ((j : ℕ) → o ≡ Some j → j < n) → ((j : ℕ) → p ≡ Some j → j < 12) → place_or n o p ≡ Some k → k < 12 + n
 or_below n k (Some j) p h g e = let same : j ≡ k = cc in omega (arith, same, h j refl)
@@ -226,7 +224,7 @@ column_below columns w k e = or_below (length columns) k (place_of columns w) (p
 
 used_below : (n : ℕ) (o : Option ℕ) → ((k : ℕ) → o ≡ Some k → k < n) → IsColumnOf n (column_at o)
 used_below n None h = tt
-used_below n (Some k) h = below_test k n (h k refl)
+used_below n (Some k) h = test_from_below k n (h k refl)
 
 -- beside the code are in scope all columns and these variables
 pub beside_in_scope : (columns : List (List ℕ)) (others : Option (List (List ℕ))) → AreInScope (column_count (length columns)) (variable_total others) (beside_names columns others)

@@ -1,15 +1,17 @@
 -- What holds of all riders, and of all that is done at edges, that are read.
-use Rattle.std.proofs.Common.{◌≡◌, ℕ, ◌+◌, ◌<◌, Bool, true, false, ◌&&◌, cond, List, [], Option, Some, None, length, refl, ap, ◌∙◌, subst, arith}
-use Rattle.std.proofs.lemmas.Bool.Decides.{nat_tests}
+use Rattle.std.proofs.Common.{◌≡◌, ℕ, ◌+◌, ◌<◌, Bool, true, false, ◌&&◌, cond, List, [], Option, Some, None, length, refl, ap, ◌∙◌, subst}
 use Rattle.std.specs.List.{list_all}
 use Rattle.std.specs.Prelude.{nat_lt, slice_get}
+use Rattle.std.proofs.lemmas.Bool.{and_from}
+use Rattle.lc_lemmas.proofs.Booleans.{left_true, right_true}
+use Rattle.lc_lemmas.proofs.Numbers.{below_from_test, test_from_below}
 use Rattle.lc_base.specs.NameText.{is_name}
 use Rattle.lc_base.specs.Limits.{path_limit}
 use Rattle.lc_sexp.specs.Trees.{Tree, Trees, atom, list, none, ◌▸◌, item_count}
 use Rattle.lc_object.specs.declared.instr.EdgeKind.{EdgeKind}
 use Rattle.lc_outline.specs.Development.{On}
 use Rattle.lc_outline.specs.Resolved.{condition_is_resolved, has_some}
-use Rattle.lc_reading.proofs.Holding.{Holds, holds_unit, mapped_holds, both_holds, three_holds, ended_holds, limited_holds, if_holds, listed_holds, behind_holds, and_true}
+use Rattle.lc_reading.proofs.Holding.{Holds, holds_unit, mapped_holds, both_holds, three_holds, ended_holds, limited_holds, if_holds, listed_holds, behind_holds}
 use Rattle.lc_reading.specs.Listed.{place_of}
 use Rattle.lc_reading.specs.Naming.{within, use_reading}
 use Rattle.lc_reading.specs.Readings.{Reading, fine, wrong, both}
@@ -21,7 +23,6 @@ use Rattle.lc_rider.specs.Rider.{Marking, Deed, Assign, Marks, Rider, Own, Other
 use Rattle.lc_seq.specs.Branches.{op_branches}
 use Rattle.lc_seq.specs.Sequential.{Chosen}
 use Rattle.lc_seq.specs.Specification.{Operation, chosen}
-use Rattle.lc_term.proofs.Tests.{left_true, right_true}
 use Rattle.lc_term.specs.Lists.{Every}
 use Rattle.lc_term.specs.Syntax.{Term, Formula}
 use Rattle.lc_term.specs.Truth.{is_ground}
@@ -88,12 +89,6 @@ deed_is_known d own (Marks Note by) = is_choosing own by
 abbrev pub rider_is_known : Known → Option Ways → Rider → Bool
 rider_is_known d own r = condition_is_resolved r.condition && deed_is_known d own r.deed
 
-below_of : (k n : ℕ) → nat_lt k n ≡ true → k < n
-below_of k n e = grind (arith, nat_tests)
-
-below_test : (k n : ℕ) → k < n → nat_lt k n ≡ true
-below_test k n h = grind (arith, nat_tests)
-
 -- an operation that is named is declared, and it is the one that it is known of how it goes
 abbrev pub IsOther : Known → Tree → Term × ℕ → Type 0
 IsOther d u p = (p.1 < length d.operations) × (ways_named d u ≡ slice_get d.ways p.1)
@@ -106,7 +101,7 @@ other_known d names m t l (list us) =
     both_holds (λ x. Unit {0}) (λ k. ⊥) (IsOther d (list us)) pair _ (use_reading d.operations l (list us)) (holds_unit (term_reading names [] m t)) tt (λ x k h e. absurd e)
 
 other_chosen : (d : Known) (own : Option Ways) (u : Tree) (p : Term × ℕ) (by : Chosen Term) → IsOther d u p → is_choosing (ways_named d u) by ≡ true → deed_is_known d own (mark_of_other p by) ≡ true
-other_chosen d own u p by h e = and_true (nat_lt p.1 (length d.operations)) _ (below_test p.1 (length d.operations) h.0) (subst (λ o. is_choosing o by ≡ true) h.1 e)
+other_chosen d own u p by h e = and_from (nat_lt p.1 (length d.operations)) _ (test_from_below p.1 (length d.operations) h.0) (subst (λ o. is_choosing o by ≡ true) h.1 e)
 
 lin_other_known : (d : Known) (names : Names) (own : Option Ways) (n m : ℕ) (ts : Trees) → Holds (λ x. deed_is_known d own x ≡ true) (lin_other_reading d names n m ts)
 lin_other_known d names own n m none = tt
@@ -160,7 +155,7 @@ rider_known d names own n (list (list us ▸ ts)) = tt
 rider_known d names own n (list (atom w ▸ ts)) =
     if_holds (λ r. rider_is_known d own r ≡ true) (is w _) _ _
     (mapped_holds (λ (p : Formula × Deed). (is_ground p.0 ≡ true) × (deed_is_known d own p.1 ≡ true)) (λ r. rider_is_known d own r ≡ true) where_holds _ (when_known d names own n (n + 2) ts)
-    (λ p h. and_true (is_ground p.0) (deed_is_known d own p.1) h.0 h.1))
+    (λ p h. and_from (is_ground p.0) (deed_is_known d own p.1) h.0 h.1))
     (mapped_holds (λ x. deed_is_known d own x ≡ true) (λ r. rider_is_known d own r ≡ true) always _ (begun_known d names own n (n + 2) ts (head_of w)) (λ x h. h))
 
 pub placed_holds : {X : Type 0} (test : X → Bool) (read : ℕ → ℕ → Tree → Reading X) → ((i n : ℕ) (t : Tree) → Holds (λ x. test x ≡ true) (read i n t)) → (i m : ℕ) (ts : Trees)
@@ -168,7 +163,7 @@ pub placed_holds : {X : Type 0} (test : X → Bool) (read : ℕ → ℕ → Tree
 placed_holds test read h i m none = refl
 placed_holds test read h i m (t ▸ ts) =
     both_holds (λ x. test x ≡ true) (λ xs. list_all test xs ≡ true) (λ xs. list_all test xs ≡ true) cons (read i m t) (placed_reading read (i + 1) (m + item_count t) ts)
-    (h i m t) (placed_holds test read h (i + 1) (m + item_count t) ts) (λ x xs u v. and_true (test x) (list_all test xs) u v)
+    (h i m t) (placed_holds test read h (i + 1) (m + item_count t) ts) (λ x xs u v. and_from (test x) (list_all test xs) u v)
 
 ith_known : (d : Known) (names : Names) (own : Option Ways) (i n : ℕ) (t : Tree) → Holds (λ r. rider_is_known d own r ≡ true) (ith_rider_reading d names own i n t)
 ith_known d names own i n t = limited_holds (λ r. rider_is_known d own r ≡ true) _ n _ (rider_known d names own n t)
@@ -237,6 +232,6 @@ mark_leaves d operations agree some o below Own by h = some_left (slice_get d.wa
 mark_leaves d operations agree some o below (Other t p) by h =
     let named = nat_lt p (length d.operations) in
     let choosing = is_choosing (slice_get d.ways p) by in
-    let there : p < length d.operations = below_of p (length d.operations) (left_true named choosing h) in
+    let there : p < length d.operations = below_from_test p (length d.operations) (left_true named choosing h) in
     some_left (slice_get d.ways p) (op_branches operations p) (agree p there) (some p there) by (right_true named choosing h)
 mark_leaves d operations agree some o below Note by h = some_left (slice_get d.ways o) (op_branches operations o) (agree o below) (some o below) by h

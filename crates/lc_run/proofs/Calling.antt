@@ -4,13 +4,13 @@ use Rattle.std.specs.Option.{option_map_or}
 use Rattle.std.specs.Prelude.{Result, Ok, Err, IfErr, IsErrAnd, IsErrOf}
 use Rattle.std.proofs.Math.Logic.{∥∥₁_elim, ∥∥₁_map}
 use Rattle.std.proofs.lemmas.List.{append-nil, length-append}
-use Rattle.lc_hist.proofs.Tables.{slice_get-last}
+use Rattle.lc_history.proofs.Tables.{slice_get-last}
 use Rattle.lc_term.specs.Lists.{Every}
 use Rattle.lc_machine.specs.Step.{Event, Invoked}
 use Rattle.lc_sound.specs.Instrumented.{Label}
 use Rattle.lc_run.specs.Labels.{goes_on, is_unfinished, IsMoveBy}
 use Rattle.lc_run.specs.Locked.{development_held, labels_held, world_held, client_in, labels_made}
-use Rattle.lc_run.specs.Running.{IsUnderWay, IsLeftBy, IsUnbegun, IsUnstepped, IsUncalled}
+use Rattle.lc_run.specs.Running.{IsUnderWay, IsLeftBy, IsUnbegun, IsUnstepped}
 use Rattle.lc_run.specs.Taken.{IsBeginFault, IsStepFault}
 use Rattle.lc_run.specs.declared.fault.RunFault.{RunFault}
 use Rattle.lc_run.specs.declared.fault.RunFault.TheVariants.{Clients, Busy, Idle, NoOp, Arity, Mismatch, Full, Overflow, OutOfMemory}

@@ -7,9 +7,9 @@ use Rattle.std.proofs.Math.Logic.{∥∥₁_map}
 use Rattle.std.specs.List.{list_all}
 use Rattle.lc_base.specs.Limits.{seat_limit}
 use Rattle.lc_seq.specs.TextStep.{text_step, start_of}
-use Rattle.lc_hist.specs.History as H
-use Rattle.lc_hist.specs.History.{Entry, Linearizes}
-use Rattle.lc_hist.specs.WellFormed.{IsWellFormed}
+use Rattle.lc_history.specs.History as H
+use Rattle.lc_history.specs.History.{Entry, Linearizes}
+use Rattle.lc_history.specs.WellFormed.{IsWellFormed}
 use Rattle.lc_machine.specs.World.{World}
 use Rattle.lc_outline.specs.Development.{Development}
 use Rattle.lc_outline.specs.Resolved.{IsResolved}

@@ -1,11 +1,12 @@
 -- The entries of a run's order are of its clients.
-use Rattle.std.proofs.Common.{◌≡◌, ℕ, zero, suc, ◌<◌, ◌≤◌, ◌==◌, ◌^◌, Bool, true, false, cond, nat_lt, List, [], ◌∷◌, ◌++◌, ℤ, Option, Some, None, refl, sym, ap, subst, ◌∙◌, inl, inr, eq-eqb, arith}
+use Rattle.std.proofs.Common.{◌≡◌, ℕ, ◌≤◌, ◌==◌, Bool, true, false, cond, nat_lt, List, [], ◌∷◌, ◌++◌, ℤ, Some, None, refl, sym, ap, subst, ◌∙◌, inl, inr, eq-eqb, arith}
 use Rattle.std.specs.List.{list_all}
 use Rattle.std.proofs.lemmas.Bool.Decides.{nat_tests}
-use Rattle.lc_term.proofs.Tests.{left_true, right_true, both_true}
+use Rattle.std.proofs.lemmas.Bool.{and_from}
+use Rattle.lc_lemmas.proofs.Booleans.{left_true, right_true}
 use Rattle.lc_base.specs.Limits.{seat_limit}
 use Rattle.lc_seq.specs.Sequential.{Call, Sequential}
-use Rattle.lc_hist.specs.History.{Entry, AreCalls, Linearizes, entries_of, returned_of, pending_of}
+use Rattle.lc_history.specs.History.{Entry, AreCalls, Linearizes, entries_of, returned_of, pending_of}
 use Rattle.lc_machine.specs.Step.{Event, Invoked, Moved, Returned}
 use Rattle.lc_sound.specs.Instrumented.{Label, event_of, history}
 use Rattle.lc_run.specs.Ordering.{has_client, is_small}
@@ -39,7 +40,7 @@ behind-none false x xs e = e
 below : (n : ℕ) (es : List Entry) → n ≤ seat_limit → ((c : ℕ) → n ≤ c → entries_of c es ≡ []) → list_all is_small es ≡ true
 below n [] few h = refl
 below n (e ∷ es) few h =
-    both_true (is_small e) (list_all is_small es) (mine (nat_lt e.client n) refl)
+    and_from (is_small e) (list_all is_small es) (mine (nat_lt e.client n) refl)
     (below n es few (λ c le. behind-none (e.client == c) (e.call, e.reply) (entries_of c es) (h c le)))
   where
     small : (d n : ℕ) → n ≤ seat_limit → nat_lt d n ≡ true → nat_lt d 4294967296 ≡ true

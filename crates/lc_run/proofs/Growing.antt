@@ -1,10 +1,10 @@
 -- Lists of labels that grow, and why a client takes no step.
-use Rattle.std.proofs.Common.{◌≡◌, ℕ, ◌+◌, ◌-◌, ◌<◌, ◌≤◌, true, false, List, [], ◌∷◌, ◌++◌, ℤ, Some, Err, length, refl, sym, ap, subst, ◌∙◌, inr, arith, append_assoc}
-use Rattle.std.specs.Prelude.{Vec, Result, Ok, IfOk, IfErr, IfSome, IsErrAnd}
+use Rattle.std.proofs.Common.{◌≡◌, ℕ, ◌-◌, ◌≤◌, true, List, [], ◌∷◌, ◌++◌, ℤ, Some, Err, length, refl, sym, ap, subst, ◌∙◌, arith}
+use Rattle.std.specs.Prelude.{Result, Ok, IfOk, IfErr, IfSome, IsErrAnd}
 use Rattle.std.proofs.lemmas.List.{append-nil, length-append}
 use Rattle.std.proofs.lemmas.Option.{same_Some, slice_get_within}
-use Rattle.lc_hist.proofs.Tables.{slice_get-last}
-use Rattle.lc_base.specs.Limits.{label_limit}
+use Rattle.lc_history.proofs.Tables.{slice_get-last}
+use Rattle.lc_run.specs.Limits.{label_limit}
 use Rattle.lc_term.specs.Meaning.{State}
 use Rattle.lc_machine.specs.Answered.{IsInCall}
 use Rattle.lc_machine.specs.Step.{Event, IsClient}
@@ -15,8 +15,8 @@ use Rattle.lc_machine.specs.declared.fault.StepFault.TheVariants as step
 use Rattle.lc_outline.specs.Development.{Development}
 use Rattle.lc_sound.specs.Instrumented.{Label}
 use Rattle.lc_steps.specs.StepView.{GoesOn, IsAdvanced, IsBegun, MayBegin}
-use Rattle.lc_run.specs.Labels.{last_of, goes_on, is_unfinished, HasMade, HasMoved, IsMove, IsMoveBy}
-use Rattle.lc_run.specs.Running.{IsSaid, IsCalled, IsLeft}
+use Rattle.lc_run.specs.Labels.{last_of, is_unfinished, HasMade, HasMoved}
+use Rattle.lc_run.specs.Running.{IsSaid}
 use Rattle.lc_run.specs.Taken.{fault_as, HaveRoom, IsUntold, IsStepFault, MayStep}
 use Rattle.lc_run.specs.declared.fault.RunFault.{RunFault}
 use Rattle.lc_run.specs.declared.fault.RunFault.TheVariants.{Clients, Busy, Idle, NoOp, Arity, Mismatch, Full, Overflow, OutOfMemory}

@@ -1,26 +1,27 @@
 -- What happens in a run, put together from the front, and counted from the end.
-use Rattle.std.proofs.Common.{ℤ, ◌-◌, ap₂, ◌≡◌, ◌≢◌, ℕ, zero, suc, ◌+◌, ◌<◌, ◌≤◌, ◌==◌, Bool, true, false, ◌&&◌, cond, nat_lt, eqb, List, [], ◌∷◌, ◌++◌, Some, None, map, drop, length, set, get_or, replicate, refl, sym, ap, subst, ◌∙◌, append_assoc, arith}
-use Rattle.std.specs.Prelude.{Vec, reverse, slice_index_or}
+use Rattle.std.proofs.Common.{ℤ, ◌-◌, ap₂, ◌≡◌, ℕ, zero, suc, ◌+◌, ◌<◌, ◌≤◌, Bool, true, false, cond, nat_lt, List, [], ◌∷◌, ◌++◌, map, drop, length, get_or, refl, sym, ap, ◌∙◌, arith}
+use Rattle.std.specs.Prelude.{Vec, reverse}
 use Rattle.std.specs.declared.alloc.Global.{Global}
 use Rattle.std.specs.List.{list_all}
-use Rattle.std.proofs.lemmas.Bool.Decides.{nat_tests}
-use Rattle.std.proofs.lemmas.List.{drop_more, get_or_past, get_or-set_other, map-append, reverse-append}
+use Rattle.std.proofs.lemmas.List.{drop_more, map-append, reverse-append}
 use Rattle.std.proofs.lemmas.List.Folds.{list_all-append}
-use Rattle.lc_term.proofs.Tests.{left_true, right_true, both_true}
+use Rattle.std.proofs.lemmas.Bool.{and_from}
+use Rattle.lc_lemmas.proofs.Booleans.{left_true, right_true}
+use Rattle.lc_lemmas.proofs.Numbers.{below_from_test}
 use Rattle.lc_seq.specs.Sequential.{Call}
 use Rattle.lc_seq.specs.SpecView.{text_call_of, choice_of}
 use Rattle.lc_seq.specs.declared.choice.Pick.{Pick}
 use Rattle.lc_seq.specs.declared.text_call.TextCall.{TextCall}
-use Rattle.lc_hist.specs.declared.event.Done.{Done}
-use Rattle.lc_hist.specs.View as H
+use Rattle.lc_history.specs.declared.event.Done.{Done}
+use Rattle.lc_history.specs.View as H
 use Rattle.lc_machine.specs.Step.{Event, Invoked, Moved, Returned}
 use Rattle.lc_rider.specs.Rider.{Mark}
 use Rattle.lc_sound.specs.Happening as S
-use Rattle.lc_sound.specs.Happening.{Happens, Marked, counted, returns_next, client_of, is_reply, put}
+use Rattle.lc_sound.specs.Happening.{Happens, Marked, counted, returns_next}
 use Rattle.lc_sound.specs.Instrumented.{Label, event_of}
-use Rattle.lc_sound.specs.Order.{called_last, marked, happenings, no_call}
+use Rattle.lc_sound.specs.Order.{called_last, marked, happenings}
 use Rattle.lc_run.specs.LabelView.{labels_of}
-use Rattle.lc_run.specs.Ordering.{order_entries, call_of, call_in, calls_in, happening_of, happenings_of, has_client, returns_in, is_within, counted_first, is_small}
+use Rattle.lc_run.specs.Ordering.{order_entries, happening_of, happenings_of, has_client, is_within, counted_first, is_small}
 use Rattle.lc_run.specs.declared.label.Label as code
 use Rattle.lc_run.specs.declared.ordering.Happening.{Happening}
 
@@ -34,16 +35,16 @@ happenings_within n calls (l ∷ ls) h =
     joined (map (marked calls) l.marks) _ (marks-are l.marks) (joined (map Happens (event_of l.client l.what)) _ (event-is l.what (left_true (has_client n l) (list_all (has_client n) ls) h)) rest)
   where
     joined : (xs ys : List S.Happening) → list_all (is_within n) xs ≡ true → list_all (is_within n) ys ≡ true → list_all (is_within n) (xs ++ ys) ≡ true
-    joined xs ys a b = list_all-append (is_within n) xs ys ∙ both_true _ _ a b
+    joined xs ys a b = list_all-append (is_within n) xs ys ∙ and_from _ _ a b
 
     marks-are : (ms : List Mark) → list_all (is_within n) (map (marked calls) ms) ≡ true
     marks-are [] = refl
     marks-are (m ∷ ms) = marks-are ms
 
     event-is : (what : Event) → nat_lt l.client n ≡ true → list_all (is_within n) (map Happens (event_of l.client what)) ≡ true
-    event-is (Invoked o numbers) e = both_true _ _ e refl
+    event-is (Invoked o numbers) e = and_from _ _ e refl
     event-is (Moved point edge) e = refl
-    event-is (Returned numbers) e = both_true _ _ e refl
+    event-is (Returned numbers) e = and_from _ _ e refl
 
 -- ---- from the end
 
@@ -105,11 +106,8 @@ shown-reverse es = map-reverse (H.entry_of text_call_of choice_of (λ (reply : V
 
 -- ---- the clients of labels
 
-told-below : (c n : ℕ) → nat_lt c n ≡ true → c < n
-told-below c n t = grind (arith, nat_tests)
-
 -- the label at a place among those of n clients
 pub client-at : (n i : ℕ) (ls : List code.Label) (x : code.Label) → list_all (has_client n) (labels_of ls) ≡ true → i < length ls → x ≡ get_or ls i x → x.client < n
 client-at n i [] x e m is = absurd (omega arith)
-client-at n zero (l ∷ ls) x e m is = told-below x.client n (ap (λ (y : code.Label). nat_lt y.client n) is ∙ left_true (nat_lt l.client n) (list_all (has_client n) (labels_of ls)) e)
+client-at n zero (l ∷ ls) x e m is = below_from_test x.client n (ap (λ (y : code.Label). nat_lt y.client n) is ∙ left_true (nat_lt l.client n) (list_all (has_client n) (labels_of ls)) e)
 client-at n (suc i) (l ∷ ls) x e m is = client-at n i ls x (right_true (nat_lt l.client n) (list_all (has_client n) (labels_of ls)) e) (omega arith) is

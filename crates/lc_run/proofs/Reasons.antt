@@ -1,13 +1,14 @@
 -- Why a run is not finished: at most one reason applies, and none if all seats are its own.
-use Rattle.std.proofs.Common.{◌≡◌, ℕ, ◌<◌, Bool, true, false, List, Option, Some, None, refl, sym, ap, subst, ◌∙◌, nat_lt, arith}
+use Rattle.std.proofs.Common.{◌≡◌, ℕ, Bool, true, false, List, Option, Some, None, refl, sym, ap, subst, ◌∙◌, nat_lt, arith}
 use Rattle.std.specs.Prelude.{◌↔◌, All, MatchOption, slice_get}
 use Rattle.std.proofs.lemmas.Bool.Decides.{nat_tests}
 use Rattle.std.proofs.lemmas.List.Elements.{All-get_or}
 use Rattle.std.proofs.lemmas.Option.{get_or_from_slice_get, same_Some, slice_get_within}
+use Rattle.lc_lemmas.proofs.Numbers.{below_from_test}
 use Rattle.lc_outline.specs.Development.{Development}
 use Rattle.lc_sound.specs.Instrumented.{Label}
 use Rattle.lc_run.specs.Locked.{labels_held, client_in}
-use Rattle.lc_run.specs.Seated.{has_seat, HasOwn, IsFirstStrange, IsLeastMissing, IsWhole, IsWhy, IsWhyNot}
+use Rattle.lc_run.specs.Seated.{HasOwn, IsFirstStrange, IsLeastMissing, IsWhole, IsWhy, IsWhyNot}
 use Rattle.lc_run.specs.declared.finishing.Why.{Why}
 use Rattle.lc_run.specs.declared.finishing.Why.TheVariants.{SeatMissing, RunMismatch, SeatMismatch, OutOfMemory}
 use Rattle.lc_run.specs.declared.held.Shared.{Shared}
@@ -16,9 +17,6 @@ use Rattle.lc_run.specs.declared.held.Seat.{Seat}
 -- numbers of which neither is less
 neither : (a b : ℕ) → nat_lt a b ≡ false → nat_lt b a ≡ false → a ≡ b
 neither a b h k = grind (arith, nat_tests)
-
-less : (a b : ℕ) → nat_lt a b ≡ true → a < b
-less a b h = grind (arith, nat_tests)
 
 module _ {J : Type 0} where
   own-at : (labels : List Label) (seats : List (Seat J)) (k : ℕ) (s : Seat J) → slice_get seats k ≡ Some s → All (HasOwn labels) seats → HasOwn labels s
@@ -29,16 +27,16 @@ module _ {J : Type 0} where
   one-missing n seats c d h k = by (nat_lt c d) refl (nat_lt d c) refl
     where
       by : (a : Bool) → nat_lt c d ≡ a → (b : Bool) → nat_lt d c ≡ b → c ≡ d
-      by true e b f = absurd (let there = k.least c (less c d e) in let none = h.missing in cc)
-      by false e true f = absurd (let there = h.least d (less d c f) in let none = k.missing in cc)
+      by true e b f = absurd (let there = k.least c (below_from_test c d e) in let none = h.missing in cc)
+      by false e true f = absurd (let there = h.least d (below_from_test d c f) in let none = k.missing in cc)
       by false e false f = neither c d e f
 
   one-strange : (labels : List Label) (seats : List (Seat J)) (c d : ℕ) → IsFirstStrange labels seats c → IsFirstStrange labels seats d → c ≡ d
   one-strange labels seats c d h k = by (nat_lt h.place k.place) refl (nat_lt k.place h.place) refl
     where
       by : (a : Bool) → nat_lt h.place k.place ≡ a → (b : Bool) → nat_lt k.place h.place ≡ b → c ≡ d
-      by true e b f = absurd (h.strange (k.first h.place h.seat (less h.place k.place e) h.there))
-      by false e true f = absurd (k.strange (h.first k.place k.seat (less k.place h.place f) k.there))
+      by true e b f = absurd (h.strange (k.first h.place h.seat (below_from_test h.place k.place e) h.there))
+      by false e true f = absurd (k.strange (h.first k.place k.seat (below_from_test k.place h.place f) k.there))
       by false e false f =
           let here : slice_get seats h.place ≡ Some k.seat = subst (λ i. slice_get seats i ≡ Some k.seat) (sym (neither h.place k.place e f)) k.there in
           sym h.client ∙ (ap client_in (same_Some h.seat k.seat (sym h.there ∙ here)) ∙ k.client)

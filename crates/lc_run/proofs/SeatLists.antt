@@ -1,10 +1,11 @@
 -- Seats that are handed in, and their lists.
-use Rattle.std.proofs.Common.{◌≡◌, ℕ, zero, suc, ◌<◌, ◌≤◌, ◌==◌, Bool, true, false, ◌||◌, List, [], ◌∷◌, ◌++◌, Some, get_or, map, set, length, refl, sym, ap, subst, ◌∙◌, inl, inr, eq-eqb, arith}
+use Rattle.std.proofs.Common.{◌≡◌, ℕ, zero, suc, ◌<◌, ◌≤◌, ◌==◌, Bool, true, false, List, [], ◌∷◌, ◌++◌, Some, set, length, refl, sym, ap, subst, ◌∙◌, inl, inr, eq-eqb, arith}
 use Rattle.std.specs.Prelude.{◌⊎◌, Vec, All, slice_get, slice_index_or}
 use Rattle.std.specs.declared.alloc.Global.{Global}
-use Rattle.std.proofs.lemmas.Bool.{eqb-true}
+use Rattle.std.proofs.lemmas.Bool.{eqb-true, or_left, or_right}
 use Rattle.std.proofs.lemmas.List.{map-set, length-map, length-set, length-append}
-use Rattle.lc_hist.proofs.Tables.{slice_get-set, slice_get-set_other}
+use Rattle.lc_lemmas.proofs.Booleans.{or_cases}
+use Rattle.lc_history.proofs.Tables.{slice_get-set, slice_get-set_other}
 use Rattle.lc_sound.specs.Instrumented as S
 use Rattle.lc_run.specs.Finished.{lists_in}
 use Rattle.lc_run.specs.LabelView.{labels_of}
@@ -14,33 +15,21 @@ use Rattle.lc_run.specs.Seated.{has_seat, HasOwn}
 use Rattle.lc_run.specs.declared.held.Seat.{Seat}
 use Rattle.lc_run.specs.declared.label.Label.{Label}
 
-or-cases : (a b : Bool) → (a || b) ≡ true → (a ≡ true) ⊎ (b ≡ true)
-or-cases true b e = inl refl
-or-cases false b e = inr e
-
-or-left : (a b : Bool) → a ≡ true → (a || b) ≡ true
-or-left true b e = refl
-or-left false b e = absurd cc
-
-or-right : (a b : Bool) → b ≡ true → (a || b) ≡ true
-or-right true b e = refl
-or-right false b e = e
-
 -- a client whose seat is among these and one more
 has-more : {J : Type 0} (d : ℕ) (seats : List (Seat J)) (seat : Seat J) → has_seat d (seats ++ seat ∷ []) ≡ true → (has_seat d seats ≡ true) ⊎ (client_in seat ≡ d)
-has-more d [] seat e = by (or-cases (client_in seat == d) false e)
+has-more d [] seat e = by (or_cases (client_in seat == d) false e)
   where
     by : ((client_in seat == d) ≡ true) ⊎ (false ≡ true) → (false ≡ true) ⊎ (client_in seat ≡ d)
     by (inl h) = inr (eqb-true (client_in seat) d h)
     by (inr h) = inl h
-has-more d (s ∷ seats) seat e = by (or-cases (client_in s == d) (has_seat d (seats ++ seat ∷ [])) e) (has-more d seats seat)
+has-more d (s ∷ seats) seat e = by (or_cases (client_in s == d) (has_seat d (seats ++ seat ∷ [])) e) (has-more d seats seat)
   where
     rest : (has_seat d seats ≡ true) ⊎ (client_in seat ≡ d) → (has_seat d (s ∷ seats) ≡ true) ⊎ (client_in seat ≡ d)
-    rest (inl h) = inl (or-right (client_in s == d) (has_seat d seats) h)
+    rest (inl h) = inl (or_right (client_in s == d) (has_seat d seats) h)
     rest (inr h) = inr h
 
     by : ((client_in s == d) ≡ true) ⊎ (has_seat d (seats ++ seat ∷ []) ≡ true) → (has_seat d (seats ++ seat ∷ []) ≡ true → (has_seat d seats ≡ true) ⊎ (client_in seat ≡ d)) → (has_seat d (s ∷ seats) ≡ true) ⊎ (client_in seat ≡ d)
-    by (inl h) more = inl (or-left (client_in s == d) (has_seat d seats) h)
+    by (inl h) more = inl (or_left (client_in s == d) (has_seat d seats) h)
     by (inr h) more = rest (more h)
 
 -- a client's list that is put at its place

@@ -1,15 +1,11 @@
 -- Runs that are held, and one step more of them.
-use Rattle.std.proofs.Common.{◌≡◌, ℕ, zero, suc, ◌<◌, Bool, true, List, [], ◌∷◌, ◌++◌, Some, length, replicate, refl, sym, ap, subst, set, ◌∙◌, arith}
+use Rattle.std.proofs.Common.{◌≡◌, ℕ, ◌<◌, List, [], ◌∷◌, ◌++◌, Some, length, sym, ap, subst, set, ◌∙◌, arith}
 use Rattle.std.specs.Prelude.{slice_get}
-use Rattle.std.specs.List.{list_all}
 use Rattle.std.proofs.Math.Logic.{∥∥₁_map}
-use Rattle.std.proofs.lemmas.List.{map-append, map-set, length-map, length-replicate}
+use Rattle.std.proofs.lemmas.List.{map-append, map-set, length-map}
 use Rattle.std.proofs.lemmas.Option.{slice_get_within}
-use Rattle.lc_term.proofs.Tests.{left_true, right_true, both_true}
 use Rattle.lc_term.specs.Drafts.{written_in_draft, saved_in_draft}
 use Rattle.lc_term.specs.declared.draft.Draft.{Draft}
-use Rattle.lc_object.specs.Syntax.{Object}
-use Rattle.lc_machine.specs.Placed.{is_placed, are_placed}
 use Rattle.lc_machine.specs.Step.{Event}
 use Rattle.lc_machine.specs.View.{client_of, clients_of}
 use Rattle.lc_machine.specs.World as W
@@ -42,28 +38,7 @@ runs-on extends D n before after w v x c what marks e is run step =
 pub start_is_run : (D : Development) (n : ℕ) (labels : List Label) (w : World) → labels ≡ [] → w ≡ start_world D n → ∥ IsRun D n (labels_of labels) w ∥₁
 start_is_run D n labels w e is = ∣ subst (λ ls. IsRun D n (labels_of ls) w) (sym e) is ∣₁
 
--- each passes, and so does what is put there
-pub all-set : {A : Type 0} (p : A → Bool) (xs : List A) (i : ℕ) (x : A) → list_all p xs ≡ true → p x ≡ true → list_all p (set xs i x) ≡ true
-all-set p [] i x e h = e
-all-set p (y ∷ ys) zero x e h = both_true (p x) (list_all p ys) h (right_true (p y) (list_all p ys) e)
-all-set p (y ∷ ys) (suc i) x e h = both_true (p y) (list_all p (set ys i x)) (left_true (p y) (list_all p ys) e) (all-set p ys i x (right_true (p y) (list_all p ys) e) h)
-
 -- ---- clients
-
-pub placed-set : (object : Object) (cs : List Client) (i : ℕ) (k : Client) → are_placed object (clients_of cs) ≡ true → is_placed object (client_of k) ≡ true →
-    are_placed object (clients_of (set cs i k)) ≡ true
-placed-set object cs i k e h = ap (are_placed object) (map-set client_of cs i k) ∙ all-set (is_placed object) (clients_of cs) i (client_of k) e h
-
--- clients that are all in no call
-pub idle-count : (cs : List Client) (n : ℕ) → clients_of cs ≡ replicate n W.Idle → length cs ≡ n
-idle-count cs n e = sym (length-map cs client_of) ∙ (ap length e ∙ length-replicate n W.Idle)
-
-all-idle : (object : Object) (n : ℕ) → list_all (is_placed object) (replicate n W.Idle) ≡ true
-all-idle object zero = refl
-all-idle object (suc n) = all-idle object n
-
-pub idle-placed : (object : Object) (cs : List Client) (n : ℕ) → clients_of cs ≡ replicate n W.Idle → are_placed object (clients_of cs) ≡ true
-idle-placed object cs n e = ap (are_placed object) e ∙ all-idle object n
 
 -- a client that exists is one of them
 pub client-below : (cs : List Client) (n c : ℕ) (k : W.Client) → length cs ≡ n → slice_get (clients_of cs) c ≡ Some k → c < n

@@ -5,7 +5,7 @@ use Rattle.std.specs.List.{list_all}
 use Rattle.std.proofs.lemmas.Bool.Decides.{nat_tests}
 use Rattle.std.proofs.lemmas.List.Sums.{sum_by-cons}
 use Rattle.std.proofs.lemmas.Option.{same_Some}
-use Rattle.lc_term.proofs.Tests.{left_true, right_true}
+use Rattle.lc_lemmas.proofs.Booleans.{left_true, right_true}
 use Rattle.lc_sound.specs.Instrumented.{Label}
 use Rattle.lc_run.specs.Labels.{labels_by}
 use Rattle.lc_run.specs.Ordering.{has_client}

@@ -1,21 +1,21 @@
 -- In a run each client's calls and returns take turns.
-use Rattle.std.proofs.Common.{◌≡◌, ◌≢◌, ℕ, zero, suc, ◌+◌, ◌<◌, ◌≤◌, ◌==◌, Bool, true, false, cond, List, [], ◌∷◌, ◌++◌, ℤ, Some, take, set, length, replicate, nat_lt, refl, sym, ap, ap₂, subst, ◌∙◌, append_assoc, eq-eqb, arith}
+use Rattle.std.proofs.Common.{◌≡◌, ℕ, zero, suc, ◌<◌, ◌≤◌, ◌==◌, Bool, true, false, cond, List, [], ◌∷◌, ◌++◌, ℤ, Some, take, set, length, replicate, nat_lt, refl, sym, ap, subst, ◌∙◌, append_assoc, eq-eqb, arith}
 use Rattle.std.specs.Prelude.{slice_get}
 use Rattle.std.specs.List.{list_all}
 use Rattle.std.proofs.Math.Logic.{∥∥₁_elim, ∥∥₁_map}
 use Rattle.std.proofs.Props.{props}
-use Rattle.std.proofs.lemmas.Bool.{eqb-true}
+use Rattle.std.proofs.lemmas.Bool.{eqb-true, and_from}
 use Rattle.std.proofs.lemmas.Bool.Decides.{nat_tests}
 use Rattle.std.proofs.lemmas.List.{append-nil, length-set, length-replicate}
 use Rattle.std.proofs.lemmas.Option.{same_Some, slice_get_within}
-use Rattle.lc_term.proofs.Tests.{both_true}
-use Rattle.lc_base.specs.Limits.{client_limit, seat_limit}
+use Rattle.lc_base.specs.Limits.{seat_limit}
+use Rattle.lc_history.specs.Limits.{client_limit}
 use Rattle.lc_seq.specs.Sequential.{Call}
 use Rattle.lc_seq.specs.TextStep.{text_step, start_of}
-use Rattle.lc_hist.proofs.Tables.{slice_get-set, slice_get-set_other}
-use Rattle.lc_hist.specs.History as H
-use Rattle.lc_hist.specs.History.{Called, Replied, is_call, is_return, count, Linearizes}
-use Rattle.lc_hist.specs.WellFormed.{client_of, IsInTurn, IsWellFormed}
+use Rattle.lc_history.proofs.Tables.{slice_get-set, slice_get-set_other}
+use Rattle.lc_history.specs.History as H
+use Rattle.lc_history.specs.History.{Called, Replied, is_call, is_return, count, Linearizes}
+use Rattle.lc_history.specs.WellFormed.{IsInTurn, IsWellFormed}
 use Rattle.lc_machine.specs.Step.{Event, Invoked, Moved, Returned}
 use Rattle.lc_machine.specs.World.{World, Client, Idle, In}
 use Rattle.lc_rider.specs.Rider.{Mark}
@@ -200,7 +200,7 @@ has-clients : (D : Development) (n : ℕ) (ls : List Label) (w v : World) → le
 has-clients D n [] w v count run = refl
 has-clients D n (l ∷ ls) w v count (mid, step, rest) =
     let t = stepped D w mid l.client l.what l.marks step in
-    both_true (has_client n l) (list_all (has_client n) ls) (below n l.client (let h = t.0 in omega arith)) (has-clients D n ls mid v (t.1 ∙ count) rest)
+    and_from (has_client n l) (list_all (has_client n) ls) (below n l.client (let h = t.0 in omega arith)) (has-clients D n ls mid v (t.1 ∙ count) rest)
   where
     below : (n c : ℕ) → c < n → nat_lt c n ≡ true
     below n c h = grind (arith, nat_tests)

@@ -7,3 +7,4 @@ pub mod Running
 pub mod Seated
 pub mod Ordering
 pub mod Finished
+pub mod Limits

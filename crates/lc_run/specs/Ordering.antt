@@ -5,10 +5,10 @@ use Rattle.lc_seq.specs.Sequential.{Call}
 use Rattle.lc_seq.specs.SpecView.{text_call_of, choice_of}
 use Rattle.lc_seq.specs.declared.choice.Pick.{Pick}
 use Rattle.lc_seq.specs.declared.text_call.TextCall.{TextCall}
-use Rattle.lc_hist.specs.History as H
-use Rattle.lc_hist.specs.History.{Entry}
-use Rattle.lc_hist.specs.View.{entries_in}
-use Rattle.lc_hist.specs.declared.event.Done.{Done}
+use Rattle.lc_history.specs.History as H
+use Rattle.lc_history.specs.History.{Entry}
+use Rattle.lc_history.specs.View.{entries_in}
+use Rattle.lc_history.specs.declared.event.Done.{Done}
 use Rattle.lc_rider.specs.Rider.{Mark}
 use Rattle.lc_ride.specs.RideView.{mark_of}
 use Rattle.lc_sound.specs.Happening as S

@@ -1,6 +1,6 @@
 -- How a run that is held grows by a step of a seat's client, and why there is none.
 use Rattle.std.specs.Prelude.{◌≡◌, ℕ, ◌≤◌, ◌<◌, true, false, List, [], ◌∷◌, ◌++◌, ℤ, Some, Result, Ok, Err, length, slice_get}
-use Rattle.lc_base.specs.Limits.{label_limit}
+use Rattle.lc_run.specs.Limits.{label_limit}
 use Rattle.lc_object.specs.Syntax.{Operation}
 use Rattle.lc_machine.specs.Answered.{IsInCall}
 use Rattle.lc_machine.specs.Step.{Event, IsClient}

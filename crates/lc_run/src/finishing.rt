@@ -1,6 +1,6 @@
 //! The end of a run: its history and its order, if all seats are handed in.
 ghost use Rattle.std.specs.Prelude.{◌≡◌, IfOk, IfErr, All, vec_len};
-ghost use Rattle.lc_hist.specs.Histories.{events_in};
+ghost use Rattle.lc_history.specs.Histories.{events_in};
 ghost use Rattle.lc_sound.specs.Instrumented.{history};
 ghost use Rattle.lc_sound.specs.Order.{order};
 ghost use Rattle.lc_run.specs.LabelView.{labels_of};
@@ -17,7 +17,7 @@ use crate::ordering::order_of;
 use crate::runner::Runner;
 use lc_base::OutOfMemory;
 use lc_check::Accepted;
-use lc_hist::{Done, History};
+use lc_history::{Done, History};
 use lc_seq::{Pick, TextCall};
 use lc_sound::laws::orders_linearize;
 use std::alloc::Global;
@@ -174,8 +174,8 @@ fn log_of<J: Ledger>(summary: Summary, shared: Shared<J>, seats: Vec<Seat<J>>) -
 impl<J: Ledger> Runner<J> {
     ghost use Rattle.std.specs.Prelude.{◌≡◌, ℕ, All, IfOk, IfErr, vec_len, length, map, sum};
     ghost use Rattle.lc_seq.specs.TextStep.{text_step, start_of};
-    ghost use Rattle.lc_hist.specs.Histories.{events_in};
-    ghost use Rattle.lc_hist.specs.History.{Linearizes};
+    ghost use Rattle.lc_history.specs.Histories.{events_in};
+    ghost use Rattle.lc_history.specs.History.{Linearizes};
     ghost use Rattle.lc_machine.specs.World.{World};
     ghost use Rattle.lc_sound.specs.Instrumented.{IsRun, history};
     ghost use Rattle.lc_sound.specs.Order.{order};

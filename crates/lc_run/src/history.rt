@@ -1,13 +1,13 @@
 //! The history of a run: the calls and the returns of its clients.
 ghost use Rattle.std.specs.Prelude.{◌≡◌, ◌++◌, OnOk, IfOk};
-ghost use Rattle.lc_hist.specs.View.{events_of};
+ghost use Rattle.lc_history.specs.View.{events_of};
 ghost use Rattle.lc_sound.specs.Instrumented.{event_of, history};
 ghost use Rattle.lc_steps.specs.StepView.{what_of};
 ghost use Rattle.lc_run.specs.LabelView.{labels_of};
 
 use crate::label::{Label, copied};
 use lc_base::OutOfMemory;
-use lc_hist::Event;
+use lc_history::Event;
 use lc_steps::What;
 use std::alloc::Global;
 

@@ -1,7 +1,7 @@
 //! The steps of clients of an accepted development, while a run of it is held: each mark is lawful there, and each return
 //! justified.
 ghost use Rattle.std.specs.Prelude.{◌≡◌, ◌↔◌, ◌<◌, Some, true, IsTrue, slice_get, IfOk, IfErr};
-ghost use Rattle.lc_base.specs.Limits.{label_limit};
+ghost use Rattle.lc_run.specs.Limits.{label_limit};
 ghost use Rattle.lc_term.specs.Drafts.{written_in_draft, saved_in_draft, draft_columns};
 ghost use Rattle.lc_term.specs.SystemColumns.{column_count};
 ghost use Rattle.lc_machine.specs.Answered.{IsInCall};
@@ -21,7 +21,8 @@ ghost use Rattle.lc_run.specs.Taken.{fault_as, IsUntold, StandsIn, MayStep, MayC
 
 use crate::fault::RunFault;
 use crate::label::Label;
-use lc_base::{LABEL_LIMIT, OpId};
+use crate::limits::LABEL_LIMIT;
+use lc_base::OpId;
 use lc_check::Accepted;
 use lc_machine::{Client, StepFault};
 use lc_outline::Development;

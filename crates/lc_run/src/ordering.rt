@@ -12,7 +12,7 @@ ghost use Rattle.lc_run.specs.Ordering.{entry_of, order_entries, call_in, calls_
 
 use crate::label::{Label, copied, copied_pick};
 use lc_base::{OpId, OutOfMemory};
-use lc_hist::Done;
+use lc_history::Done;
 use lc_ride::Mark;
 use lc_seq::{Pick, TextCall};
 use lc_steps::What;

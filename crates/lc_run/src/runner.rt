@@ -16,6 +16,7 @@ use lc_steps::What;
 use std::alloc::Global;
 use std::sync::ledger::{Blank, Ledger};
 use std::sync::{Arc, Mutex, Wait};
+use std::thread::yield_now;
 
 /// What a step of a call came to.
 #[derive(Drop)]
@@ -177,7 +178,8 @@ impl<J: Ledger> Runner<J> {
         }
     }
 
-    /// A call of an operation with these numbers, with at most `turns` turns. Between two of its steps others may take theirs.
+    /// A call of an operation with these numbers, with at most `turns` turns. Between two of its steps others may take theirs, and are
+    /// given way to.
     pub fn call<R: Wait>(
         &self,
         rt: &R,
@@ -199,6 +201,7 @@ impl<J: Ledger> Runner<J> {
             if let Progress::Returned(reply) = self.step(rt, seat)? {
                 return Ok(Called::Returned(reply));
             }
+            yield_now();
         }
         Ok(Called::TurnsSpent)
     }

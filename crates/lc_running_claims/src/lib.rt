@@ -4,4 +4,3 @@
 
 pub mod plans;
 pub mod runs;
-pub mod steps;

@@ -2,8 +2,8 @@
 //! finished, and its end.
 ghost use Rattle.std.specs.Prelude.{◌≡◌, ◌↔◌, ℕ, All, Some, None, true, false, IfErr, IfOk, IsErrOf, OnErr, OnOk, length, map, sum, vec_len};
 ghost use Rattle.lc_check.specs.VerdictView.{development_in};
-ghost use Rattle.lc_hist.specs.Histories.{events_in};
-ghost use Rattle.lc_hist.specs.History.{Linearizes};
+ghost use Rattle.lc_history.specs.Histories.{events_in};
+ghost use Rattle.lc_history.specs.History.{Linearizes};
 ghost use Rattle.lc_machine.specs.Step.{Invoked};
 ghost use Rattle.lc_machine.specs.World.{World};
 ghost use Rattle.lc_run.specs.Finished.{AreOwn, IsConcluded, lists_in};

@@ -1,10 +1,12 @@
 //! Axioms of arrays, when the numbers of reads break them.
 
 use crate::cases::{Noted, weighed_clause};
-use crate::model::{Clash, DEEPEST, Model, active_read, base_read, closed_value, fill_model};
 use crate::turn::{Turn, taken};
 use lc_facts::{Done, FactId, Known, Place, ProofId, Rule, Weighed};
 use lc_farkas::Stop;
+use lc_search_model::{
+    Clash, DEEPEST, Model, active_read, base_read, closed_value, count_evaluated, fill_model,
+};
 use lc_table::{FormulaId, FormulaNode, TermId, TermNode};
 
 /// What is noted to be done with a read: `same` with another one, or what the column says of it.
@@ -103,7 +105,9 @@ fn is_broken(known: &mut Known, model: &mut Model, read: TermId) -> Result<bool,
         return Ok(false);
     }
     let number = known.value_of(read)?;
-    Ok(number != closed_value(known, model, read)?)
+    let meant = closed_value(known, model, read)?;
+    count_evaluated(known, model)?;
+    Ok(number != meant)
 }
 
 /// Takes in what a column that is built says of a read.

@@ -1,11 +1,12 @@
 //! Blocks of quantifiers, and the places of their variables in indexes.
 
-use crate::model::DEEPEST;
 use crate::scanning::{Comparison, Place, found_in};
+use crate::work::Work;
 use indexmap::IndexMap;
 use lc_base::ColId;
-use lc_facts::{Form, Nodes};
 use lc_farkas::Stop;
+use lc_nodes::{Form, Nodes};
+use lc_search_model::DEEPEST;
 use lc_table::{FormulaId, FormulaNode, TermId, TermNode};
 use std::alloc::Global;
 
@@ -48,6 +49,8 @@ pub(crate) struct Blocks {
     pub(crate) uses: Vec<TermId>,
     /// How many variables the goal has.
     pub(crate) variables: u32,
+    /// What was counted of the work.
+    pub(crate) work: Work,
 }
 
 impl Drop for Blocks {
@@ -58,6 +61,7 @@ impl Drop for Blocks {
             standard: _,
             uses: _,
             variables: _,
+            work: _,
         } = self;
     }
 }
@@ -71,6 +75,7 @@ impl Blocks {
             standard: IndexMap::new(alloc),
             uses: Vec::new(alloc),
             variables,
+            work: Work::new(),
         }
     }
 

@@ -1,13 +1,14 @@
 //! Terms that may be put in for the variables of a block.
 
 use crate::blocks::{Blocks, Slot, solved};
-use crate::cases::key_of;
-use crate::model::{Model, closed_value, live_places, live_variable};
+use crate::cases::{key_of, looked_at};
 use crate::reach::Reach;
+use crate::work::count_nodes;
 use indexmap::IndexMap;
 use lc_base::ColId;
 use lc_facts::{Indexed, Known, Place};
 use lc_farkas::{Rational, Stop};
+use lc_search_model::{Model, closed_value, count_evaluated, live_places, live_variable};
 use lc_table::{FormulaId, TermId};
 use std::alloc::Global;
 
@@ -38,11 +39,21 @@ impl Candidate {
 /// The place of what is tried only late.
 const LATE: Place = Place { rank: 3, depth: 0 };
 
-/// The work of taking a term in: so many nodes could be looked at.
-const GATHERED: usize = 10;
+/// The work of taking a term in.
+const GATHERED: usize = 3;
 
-/// The work of solving an index for a variable.
-const SOLVED: usize = 20;
+/// How many nodes of a term are looked at for a unit of work, and how many at most.
+const LEARNT: usize = 8;
+
+const MOST_LEARNT: usize = 10_000;
+
+/// The work of solving an index for a variable, beside that of new nodes.
+const SOLVED: usize = 5;
+
+/// The work of looking at a term.
+fn learnt(known: &Known, term: TermId) -> usize {
+    (known.nodes.term_size(term) as usize).min(MOST_LEARNT) / LEARNT
+}
 
 /// How many terms of one number are kept.
 pub(crate) const MOST_ALIKE: usize = 3;
@@ -105,7 +116,8 @@ impl Gathered {
         term: TermId,
         place: Place,
     ) -> Result<(), Stop> {
-        known.tableau.spend(GATHERED)?;
+        let looked = learnt(known, term);
+        known.tableau.spend(looked.saturating_add(GATHERED))?;
         let size = known.nodes.term_size(term);
         let candidate = Candidate { term, place, size };
         let standard = blocks.standard_of(&mut known.nodes, term)?;
@@ -171,11 +183,11 @@ fn gather_slot(
     slot: Slot,
     gathered: &mut Gathered,
 ) -> Result<(), Stop> {
-    let count = index_count(known, slot.column);
-    known.tableau.spend(count.saturating_mul(SOLVED))?;
-    for place in 0..count {
+    for place in 0..index_count(known, slot.column) {
         if let Some(indexed) = index_at(known, slot.column, place) {
             let alloc = blocks.alloc;
+            let looked = learnt(known, indexed.term);
+            known.tableau.spend(looked.saturating_add(SOLVED))?;
             if let Some(term) = solved(&mut known.nodes, alloc, slot, indexed.term)? {
                 let rise = if term == indexed.term { 0 } else { 1 };
                 let place = Place {
@@ -395,6 +407,8 @@ pub(crate) fn choices(
         }
     }
     if !has_slot {
+        let units = looked_at(known);
+        known.tableau.spend(units)?;
         gather_variables(known, blocks, &mut gathered)?;
         gather_indexes(known, blocks, &mut gathered)?;
         gather_compared(known, blocks, &mut gathered)?;
@@ -403,8 +417,11 @@ pub(crate) fn choices(
         gather_solutions(known, blocks, formula, variable, &mut gathered)?;
     }
     gather_uses(known, blocks, &mut gathered)?;
+    count_nodes(&mut blocks.work, known)?;
     let list = gathered.sorted(blocks.alloc)?;
-    by_number(known, model, &list, reach.nested)
+    let choices = by_number(known, model, &list, reach.nested)?;
+    count_evaluated(known, model)?;
+    Ok(choices)
 }
 
 /// Takes a term in among those of its number.

@@ -1,10 +1,9 @@
 //! Disequalities and disjunctions that the state breaks, and what is split in the end.
 
-use crate::model::Model;
-use crate::truth::closed_truth;
 use crate::turn::{Turn, taken};
 use lc_facts::{FactId, Known, Place, Step, Weighed};
 use lc_farkas::Stop;
+use lc_search_model::{Model, closed_truth, count_evaluated};
 use lc_table::FormulaId;
 use std::alloc::Global;
 
@@ -121,11 +120,49 @@ pub(crate) fn looked_at(known: &Known) -> usize {
         .saturating_add(known.active.len())
 }
 
-/// The work of trying a branch, beside a look at what is known.
+/// The work of trying a branch, beside a look at what is known: at numbers alone, which takes a fourth of the time.
 const TRIED: usize = 50;
+
+/// The work of asking in a trial whether the numbers break a disequality.
+const DISEQUALITY: usize = 3;
 
 /// The work of taking in a node of what is tried.
 const NODE: usize = 10;
+
+/// The work of trying a branch, which keeps the numbers of the tableau: there is one for some of the formulas.
+fn trial_work(known: &Known) -> usize {
+    (looked_at(known) / 4)
+        .saturating_add(known.nodes.formula_count() / 8)
+        .saturating_add(known.variables as usize / 4)
+        .saturating_add(known.disequalities.len().saturating_mul(DISEQUALITY))
+        .saturating_add(TRIED)
+}
+
+/// Trials of branches, of which it turns out how many there are: the parts of a branch are tried as well.
+#[derive(Clone, Copy)]
+struct Trials {
+    branches: usize,
+    units: usize,
+    left: u64,
+}
+
+/// Begins trials of so many branches, and counts their work.
+fn begin_trials(known: &mut Known, branches: usize) -> Result<Trials, Stop> {
+    let units = trial_work(known);
+    known.tableau.spend(branches.saturating_mul(units))?;
+    Ok(Trials {
+        branches,
+        units,
+        left: known.left,
+    })
+}
+
+/// Ends trials, and counts the work of those that were more than the branches.
+fn end_trials(known: &mut Known, trials: Trials) -> Result<(), Stop> {
+    let tried = usize::try_from(trials.left.saturating_sub(known.left)).unwrap_or(usize::MAX);
+    let others = tried.saturating_sub(trials.branches);
+    known.tableau.spend(others.saturating_mul(trials.units))
+}
 
 /// What a disjunction, an axiom or a disequality comes to, whose branches are tried; none of other facts.
 pub(crate) fn weighed_clause(known: &mut Known, fact: FactId) -> Result<Option<Weighed>, Stop> {
@@ -134,12 +171,12 @@ pub(crate) fn weighed_clause(known: &mut Known, fact: FactId) -> Result<Option<W
         Some(parts) => parts.len(),
         None => 0,
     };
-    // A trial looks at numbers and rows alone, which takes a fourth of the time.
-    let units = (looked_at(known) / 4).saturating_add(TRIED);
     let nodes = known.nodes.formula_size(formula) as usize;
-    known.tableau.spend(count.saturating_mul(units))?;
     known.tableau.spend(nodes.saturating_mul(NODE))?;
-    known.clause(fact)
+    let trials = begin_trials(known, count)?;
+    let weighed = known.clause(fact)?;
+    end_trials(known, trials)?;
+    Ok(weighed)
 }
 
 /// Makes the reads of a formula active; whether one of them was not.
@@ -186,7 +223,9 @@ fn clause_truth(
 fn broken_disequality(known: &mut Known, model: &mut Model, fact: FactId) -> Result<Turn, Stop> {
     let formula = known.fact(fact).formula;
     known.nodes.learn_parts(formula)?;
-    if clause_truth(known, model, formula)? != Some(false) {
+    let holds = clause_truth(known, model, formula)?;
+    count_evaluated(known, model)?;
+    if holds != Some(false) {
         return Ok(Turn::Next);
     }
     if is_new_by_reads(known, formula, known.place(fact))? {
@@ -236,7 +275,9 @@ pub(crate) fn key_of(place: Place) -> i64 {
 fn is_broken(known: &mut Known, model: &mut Model, fact: FactId) -> Result<Option<bool>, Stop> {
     let formula = known.fact(fact).formula;
     known.nodes.learn_parts(formula)?;
-    Ok(match clause_truth(known, model, formula)? {
+    let holds = clause_truth(known, model, formula)?;
+    count_evaluated(known, model)?;
+    Ok(match holds {
         Some(true) => None,
         Some(false) => Some(false),
         None => Some(true),
@@ -289,7 +330,9 @@ pub(crate) fn cut_by_hints(known: &mut Known, cuts: &[FormulaId]) -> Result<Turn
 /// Cuts by a formula.
 fn cut(known: &mut Known, formula: FormulaId) -> Result<Turn, Stop> {
     let step = known.cut(formula, Place { rank: 0, depth: 0 })?;
+    let trials = begin_trials(known, step.made.len())?;
     let step = known.weigh(step)?;
+    end_trials(known, trials)?;
     let weighed = known.sorted(step)?;
     taken(known, weighed)
 }

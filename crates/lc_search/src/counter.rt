@@ -1,10 +1,10 @@
 //! What is reported of a search that found nothing.
 
-use crate::model::{active_read, live_places, live_variable};
 use crate::ranks::GOAL;
 use crate::solving::Search;
 use lc_facts::Rule;
 use lc_farkas::Stop;
+use lc_search_model::{active_read, live_places, live_variable};
 use lc_table::TermId;
 use lc_term::Term;
 

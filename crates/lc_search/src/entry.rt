@@ -4,24 +4,23 @@ ghost use Rattle.lc_table.specs.Tables.{IsFormula, AreFormulas};
 use crate::blocks::Blocks;
 use crate::cause::Cause;
 use crate::counter::{CounterModel, counter_model};
-use crate::model::Model;
 use crate::ranks::{GOAL, rank_of};
 use crate::reach::Reach;
 use crate::solving::{MOST_CUTS, Search, solve};
+use crate::work::{allow_work, count_work};
 use crate::writing::written;
 use lc_base::OutOfMemory;
-use lc_facts::{FactId, Known, Place, Taken};
+use lc_facts::{FactId, Known, Place};
 use lc_farkas::Stop;
 use lc_kernel::{Goal, Proof};
+use lc_nodes::Taken;
+use lc_search_model::Model;
 use lc_table::{FormulaId, TermId, Terms};
 use lc_term::{Formula, Term};
 use std::alloc::Global;
 
 /// How many splits may be nested in each other, in calls of three functions each.
 const MOST_SPLITS: u32 = 600;
-
-/// How much work a search may take, beside its steps: a unit is a row, a summand or a fact that is looked at.
-const WORK: u64 = 120_000_000;
 
 /// What a search came to.
 #[derive(Drop)]
@@ -66,10 +65,9 @@ pub fn search(
         cuts: Vec::new(alloc),
         cuts_left: MOST_CUTS,
         spread_at: usize::MAX,
-        proofs_counted: 0,
         cause: None,
     };
-    search.known.tableau.allow(WORK);
+    allow_work(&mut search.known);
     let found = begun(&mut search, terms, goal, uses, cuts);
     let steps = budget.saturating_sub(search.known.left);
     let end = match found {
@@ -105,6 +103,7 @@ fn begun(
     let facts = entered(search, terms, goal)?;
     enter_hints(search, uses, cuts)?;
     let mark = search.known.mark();
+    count_work(search)?;
     let found = match search.known.assume(&facts)? {
         Some(proof) => Some(proof),
         None => solve(search, Reach::first(), MOST_SPLITS)?,

@@ -1,10 +1,11 @@
 //! Cuts at fractions: each number of a state is whole.
 
 use crate::blocks::{form_of, term_of_form};
-use crate::model::{active_read, live_places, live_variable};
 use crate::turn::Turn;
-use lc_facts::{Form, Known, Place};
+use lc_facts::{Known, Place};
 use lc_farkas::{Rational, Stop};
+use lc_nodes::Form;
+use lc_search_model::{active_read, live_places, live_variable};
 use lc_table::TermId;
 
 /// A term whose number is a fraction, and how many bounds its row lacks.

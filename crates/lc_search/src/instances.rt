@@ -2,19 +2,20 @@
 
 use crate::blocks::Blocks;
 use crate::cases::{Noted, weighed_clause};
-use crate::model::Model;
 use crate::reach::Reach;
 use crate::tuples::{Instance, wanted};
 use crate::turn::Turn;
+use crate::work::count_nodes;
 use lc_facts::{Done, FactId, Known, Place, Rule, Step, Weighed};
 use lc_farkas::Stop;
+use lc_search_model::Model;
 use lc_table::{FormulaId, FormulaNode, TermId};
 
 /// What is noted of an instance that was taken in.
 const INSTANCE: u32 = 2;
 
-/// The work of making a node of an instance. It is more than it takes of time, since a node stays: by it memory is bounded.
-const NODE: usize = 100;
+/// The work of putting terms into a node of a body, beside that of making a new one.
+const NODE: usize = 10;
 
 /// Tries the instances that do not hold and are in reach.
 pub(crate) fn broken_instances(
@@ -27,6 +28,7 @@ pub(crate) fn broken_instances(
     let wishes = wanted(known, model, blocks, reach)?;
     for wanted in &wishes.list {
         let turn = try_wanted(known, *wanted, &wishes.terms, noted)?;
+        count_nodes(&mut blocks.work, known)?;
         if !turn.is_next() {
             return Ok(turn);
         }

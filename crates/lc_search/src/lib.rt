@@ -11,14 +11,13 @@ mod counter;
 mod entry;
 mod fractions;
 mod instances;
-mod model;
 mod ranks;
 mod reach;
 mod scanning;
 mod solving;
-mod truth;
 mod tuples;
 mod turn;
+mod work;
 mod writing;
 
 pub use cause::Cause;

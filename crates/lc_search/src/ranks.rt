@@ -1,7 +1,7 @@
 //! How near what is known at the start is to the goal.
 
-use lc_facts::Nodes;
 use lc_farkas::Stop;
+use lc_nodes::Nodes;
 use lc_table::{ColExprId, FormulaId, FormulaNode, TermId, TermNode};
 use std::alloc::Global;
 

@@ -1,8 +1,8 @@
 //! Where columns are read and stored to in the body of a quantifier, and what is compared in it.
 
 use lc_base::ColId;
-use lc_facts::Nodes;
 use lc_farkas::Stop;
+use lc_nodes::Nodes;
 use lc_table::{ColExprId, FormulaId, FormulaNode, TermId, TermNode};
 use std::alloc::Global;
 

@@ -6,11 +6,12 @@ use crate::cases::{Noted, broken_disequalities, broken_disjunctions, cut_by_hint
 use crate::cause::Cause;
 use crate::fractions::{cut_fraction, tightest_fraction};
 use crate::instances::broken_instances;
-use crate::model::Model;
 use crate::reach::Reach;
 use crate::turn::Turn;
+use crate::work::count_work;
 use lc_facts::{FactId, Known, ProofId, Step};
 use lc_farkas::Stop;
+use lc_search_model::Model;
 use lc_table::FormulaId;
 
 /// How many cuts at fractions may follow one another on a branch: along an unbounded line there is no end of them.
@@ -26,8 +27,6 @@ pub(crate) struct Search {
     pub(crate) cuts_left: u32,
     /// How many facts were live as numbers were spread: as long as no fact comes, numbers that were made whole stay so.
     pub(crate) spread_at: usize,
-    /// The work of how many proofs was counted.
-    pub(crate) proofs_counted: usize,
     /// Why the search is given up; none if what it stands on gave up.
     pub(crate) cause: Option<Cause>,
 }
@@ -41,7 +40,6 @@ impl Drop for Search {
             cuts: _,
             cuts_left: _,
             spread_at: _,
-            proofs_counted: _,
             cause: _,
         } = self;
     }
@@ -100,25 +98,15 @@ fn try_fractions(search: &mut Search) -> Result<Turn, Stop> {
     cut_fraction(&mut search.known, fraction)
 }
 
-/// The work of a fact that a proof needs. It is more than it takes of time, since what was proved stays: by it memory is bounded.
-const NEEDED: usize = 10;
-
-/// Counts the work of the proofs that were made since the last round.
-fn count_proofs(search: &mut Search) -> Result<(), Stop> {
-    let mut units: usize = 0;
-    for made in search.known.proofs.iter().skip(search.proofs_counted) {
-        units = units.saturating_add(made.uses.len());
-    }
-    search.proofs_counted = search.known.proofs.len();
-    search.known.tableau.spend(units.saturating_mul(NEEDED))
-}
+/// How often a round looks at what is known.
+const LOOKS: usize = 8;
 
 /// One round of the rules, with the instances in reach.
 fn pass(search: &mut Search, reach: Reach) -> Result<Turn, Stop> {
     search.known.tick()?;
-    let units = looked_at(&search.known);
+    let units = looked_at(&search.known).saturating_mul(LOOKS);
     search.known.tableau.spend(units)?;
-    count_proofs(search)?;
+    count_work(search)?;
     let live = search.known.have.len();
     if search.spread_at != live {
         search.known.tableau.spread()?;

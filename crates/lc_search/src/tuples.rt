@@ -3,16 +3,22 @@
 use crate::blocks::Blocks;
 use crate::candidates::{Choice, MOST_ALIKE, choices};
 use crate::cases::key_of;
-use crate::model::{DEEPEST, Model};
 use crate::ranks::AFTER;
 use crate::reach::Reach;
-use crate::truth::truth;
 use lc_facts::{FactId, Known, Place};
 use lc_farkas::{Rational, Stop};
+use lc_search_model::{DEEPEST, Model, count_evaluated, truth};
 use lc_table::{FormulaId, TermId};
 
 /// How many tuples of numbers are looked at in a block: a block that has more is left out.
 const MOST_TUPLES: usize = 20_000;
+
+/// How many nodes of its body may be evaluated with these tuples: a block that has more is left out, so that it does not take all
+/// the work of a search that ends without it.
+const MOST_NODES: usize = 10_000_000;
+
+/// The work of a tuple, beside that of evaluating the body.
+const TUPLE: usize = 4;
 
 /// How much farther an instance is that is not decided by the state.
 const UNDECIDED: i32 = 5;
@@ -174,11 +180,11 @@ fn wish_of_block(
     };
     let body = block.body;
     let count = tuple_count(&all);
-    if count > MOST_TUPLES || all.is_empty() {
+    let size = known.nodes.formula_size(body) as usize;
+    if count > MOST_TUPLES || count.saturating_mul(size) > MOST_NODES || all.is_empty() {
         return Ok(());
     }
-    let size = known.nodes.formula_size(body) as usize;
-    known.tableau.spend(count.saturating_mul(size))?;
+    known.tableau.spend(count.saturating_mul(TUPLE))?;
     let rise = if base.rank == AFTER { 2 } else { 1 };
     let wished = Wished {
         fact,
@@ -191,6 +197,7 @@ fn wish_of_block(
     for place in 0..count {
         tuple_at(&all, place, &mut tuple)?;
         wish_of_tuple(known, model, wished, body, &tuple, &mut numbers, wishes)?;
+        count_evaluated(known, model)?;
     }
     Ok(())
 }

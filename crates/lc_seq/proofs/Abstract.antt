@@ -5,6 +5,7 @@ use Rattle.std.specs.List.{list_all}
 use Rattle.std.proofs.lemmas.Bool.Decides.{nat_tests}
 use Rattle.std.proofs.lemmas.Option.{same_Some}
 use mathlib.Core.Path.{fun_ext}
+use Rattle.lc_lemmas.proofs.Booleans.{left_true, right_true}
 use Rattle.lc_term.specs.Updates.{Update, Write, stored_all, writes_of, values_of}
 use Rattle.lc_term.specs.Syntax.{Term, Formula}
 use Rattle.lc_term.specs.Meaning.{State, Env, outside, value, stored}
@@ -16,7 +17,6 @@ use Rattle.lc_term.proofs.Truth.{Decides-truth}
 use Rattle.lc_seq.specs.Specification.{Branch, branch_is_resolved, update_is_resolved}
 use Rattle.lc_seq.specs.TextStep.{run}
 use Rattle.lc_term.specs.Lists.{Every}
-use Rattle.lc_term.proofs.Tests.{left_true, right_true}
 use Rattle.lc_term.proofs.Stores.{if_true}
 
 -- the first n columns, and 0 in the others

@@ -1,11 +1,11 @@
 -- The branches that a choice leaves.
-use Rattle.std.proofs.Common.{◌≡◌, ℕ, ◌+◌, Bool, true, false, ◌&&◌, if◌then◌else◌, List, [], ◌∷◌, map, length, refl, ap, subst}
+use Rattle.std.proofs.Common.{◌≡◌, ℕ, ◌+◌, Bool, true, false, if◌then◌else◌, List, [], ◌∷◌, map, length, refl, ap, subst}
 use Rattle.std.specs.Prelude.{bytes_eq}
 use Rattle.std.specs.List.{list_all}
-use Rattle.std.proofs.lemmas.Bool.{eqb-true}
+use Rattle.std.proofs.lemmas.Bool.{eqb-true, and_from}
 use Rattle.std.proofs.lemmas.List.{length-map}
+use Rattle.lc_lemmas.proofs.Booleans.{left_true, right_true}
 use Rattle.lc_term.specs.Lists.{Every}
-use Rattle.lc_term.proofs.Tests.{left_true, right_true}
 use Rattle.lc_seq.specs.Sequential.{Chosen, InOrder, ByName, given_in, choose_map}
 use Rattle.lc_seq.specs.Specification.{Branch, branch_is_resolved, names, agree, chosen}
 
@@ -33,17 +33,13 @@ agree-length (ByName name xs) (ByName other ys) h = eqb-true (length xs) (length
 pub left_in : {A : Type 0} (by : Chosen A) (b : Branch) (bs : List Branch) → agree b.label by ≡ true → chosen by (b ∷ bs) ≡ b ∷ chosen by bs
 left_in by b bs e = ap (λ t. if t then b ∷ chosen by bs else chosen by bs) e
 
-both_true : (a b : Bool) → a ≡ true → b ≡ true → (a && b) ≡ true
-both_true true b e f = f
-both_true false b e f = e
-
 -- what holds of all branches holds of those that are left
 pub chosen-all : {A : Type 0} (test : Branch → Bool) (by : Chosen A) (bs : List Branch) → list_all test bs ≡ true → list_all test (chosen by bs) ≡ true
 chosen-all test by [] h = refl
 chosen-all test by (b ∷ bs) h = go (chosen-all test by bs (right_true (test b) _ h)) (agree b.label by)
   where
     go : list_all test (chosen by bs) ≡ true → (t : Bool) → list_all test (if t then b ∷ chosen by bs else chosen by bs) ≡ true
-    go rest true = both_true (test b) (list_all test (chosen by bs)) (left_true (test b) (list_all test bs) h) rest
+    go rest true = and_from (test b) (list_all test (chosen by bs)) (left_true (test b) (list_all test bs) h) rest
     go rest false = rest
 
 pub chosen-every : {A : Type 0} (P : Branch → Type 0) (by : Chosen A) (bs : List Branch) → Every P bs → Every P (chosen by bs)
@@ -65,7 +61,7 @@ chosen-resolved columns n by (b ∷ bs) h = go (chosen-resolved columns n by bs 
   where
     go : list_all (branch_is_resolved columns (n + length (given_in by))) (chosen by bs) ≡ true → (t : Bool) → agree b.label by ≡ t → list_all (branch_is_resolved columns (n + length (given_in by))) (if t then b ∷ chosen by bs else chosen by bs) ≡ true
     go rest true e =
-        both_true (branch_is_resolved columns (n + length (given_in by)) b) (list_all (branch_is_resolved columns (n + length (given_in by))) (chosen by bs))
+        and_from (branch_is_resolved columns (n + length (given_in by)) b) (list_all (branch_is_resolved columns (n + length (given_in by))) (chosen by bs))
         (subst (λ k. branch_is_resolved columns (n + k) b ≡ true) (agree-length b.label by e) (left_true (resolved_behind columns n b) (list_all (resolved_behind columns n) bs) h))
         rest
     go rest false e = rest

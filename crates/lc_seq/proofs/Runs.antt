@@ -1,6 +1,7 @@
 -- Terms, updates and branches, computed one after the other.
-use Rattle.std.proofs.Common.{◌≡◌, ℕ, zero, suc, ◌+◌, ◌<◌, ◌≤◌, arith, Bool, true, false, ◌&&◌, List, [], ◌∷◌, ◌++◌, ℤ, Option, Some, None, Result, Ok, Err, IsErrAnd, drop, get_or, slice_get, option_map, length, refl, ap, sym, subst, ◌∙◌, append_assoc, inl, inr}
-use Rattle.std.proofs.lemmas.List.{drop_more}
+use Rattle.std.proofs.Common.{◌≡◌, ℕ, ◌+◌, arith, Bool, true, false, ◌&&◌, List, [], ◌∷◌, ◌++◌, ℤ, Option, Some, None, Result, Ok, Err, IsErrAnd, slice_get, option_map, length, refl, ap, sym, subst, ◌∙◌, append_assoc, inl, inr}
+use Rattle.lc_lemmas.proofs.Booleans.{left_true, right_true}
+use Rattle.lc_lemmas.proofs.Lists.{at_all}
 use Rattle.lc_term.proofs.Truth.{Decides-truth}
 use Rattle.std.proofs.lemmas.Bool.Decides.{eqb_tells, nat_tests}
 use Rattle.std.specs.Prelude.{◌==◌, nat_lt}
@@ -26,17 +27,6 @@ use Rattle.lc_seq.specs.declared.fault.SeqFault.{SeqFault}
 use Rattle.lc_seq.specs.declared.fault.SeqFault.TheVariants.{Overflow, OutOfMemory}
 use Rattle.lc_seq.specs.declared.running.Outcome.{Outcome}
 
-pub drop_at_element : {A : Type 0} (xs : List A) (i : ℕ) (x : A) → i < length xs → x ≡ get_or xs i x → drop i xs ≡ x ∷ drop (i + 1) xs
-drop_at_element xs i x lt is = drop_more xs i x lt ∙ ap (λ y. y ∷ drop (i + 1) xs) (sym is)
-
-pub and_left : (a b : Bool) → (a && b) ≡ true → a ≡ true
-and_left true b e = refl
-and_left false b e = e
-
-pub and_right : (a b : Bool) → (a && b) ≡ true → b ≡ true
-and_right true b e = e
-and_right false b e = absurd cc
-
 pub handed_on : {X Y : Type 0} (view : X → Y) (fits : Type 0) (wanted : Y) (r : Result X SeqFault) (fault : SeqFault) → IsErrAnd r (λ y. y ≡ fault) → IsComputed seq_says view fits wanted (Err fault) → IsComputed seq_says view fits wanted r
 handed_on view fits wanted (Ok x) fault e known = absurd e
 handed_on view fits wanted (Err y) fault e known = subst (λ z. IsComputed seq_says view fits wanted (Err z)) (sym e) known
@@ -57,7 +47,7 @@ pub record AreValued (s : State) (e : Env) (columns variables : ℕ) (whole rest
 pub valued_next : (s : State) (e : Env) (columns variables : ℕ) (whole : List Term) (t : Term) (rest : List Term) (values more : List ℤ) (v : ℤ)
     → AreValued s e columns variables whole (t ∷ rest) values → TermFits s e t → more ≡ values ++ v ∷ [] → v ≡ value s e outside t → AreValued s e columns variables whole rest more
 valued_next s e columns variables whole t rest values more v are fit made is = record {
-  resolved = and_right (term_passes (known columns variables) t) (list_all (term_passes (known columns variables)) rest) are.resolved;
+  resolved = right_true (term_passes (known columns variables) t) (list_all (term_passes (known columns variables)) rest) are.resolved;
   rest_fits = λ w. (are.rest_fits w).1;
   whole_fits = λ r. are.whole_fits (fit, r);
   made = ap (λ ys. ys ++ values_of s e rest) made ∙ append_assoc values (v ∷ []) (values_of s e rest) ∙ ap (λ z. values ++ z ∷ values_of s e rest) is ∙ are.made;
@@ -68,9 +58,9 @@ pub writes-within : (s : State) (e : Env) (columns variables : ℕ) (us : List U
 writes-within s e columns variables [] all = tt
 writes-within s e columns variables (u ∷ us) all =
     let parts = term_passes (known columns variables) u.index && term_passes (known columns variables) u.value in
-    let below = and_left (nat_lt u.column columns) parts (and_left (update_is_resolved columns variables u) (list_all (update_is_resolved columns variables) us) all) in (
+    let below = left_true (nat_lt u.column columns) parts (left_true (update_is_resolved columns variables u) (list_all (update_is_resolved columns variables) us) all) in (
       grind (arith, nat_tests),
-      writes-within s e columns variables us (and_right (update_is_resolved columns variables u) (list_all (update_is_resolved columns variables) us) all),
+      writes-within s e columns variables us (right_true (update_is_resolved columns variables u) (list_all (update_is_resolved columns variables) us) all),
     )
 
 abbrev writes_in : Option (List Write × List ℤ) → List Write
@@ -81,10 +71,10 @@ writes_in (Some r) = r.0
 pub run-within : (s : State) (e : Env) (columns variables : ℕ) (bs : List Branch) (r : List Write × List ℤ) → list_all (branch_is_resolved columns variables) bs ≡ true → Some r ≡ run s e bs → AreWithin columns r.0
 run-within s e columns variables [] r all is = absurd cc
 run-within s e columns variables (b ∷ bs) r all is =
-    let first = and_left (branch_is_resolved columns variables b) (list_all (branch_is_resolved columns variables) bs) all in
-    let updates = and_left (list_all (update_is_resolved columns variables) b.updates) (list_all (term_passes (known columns variables)) b.replies)
-    (and_right (is_ground b.guard && is_known columns variables b.guard) _ first) in
-    by_guard (truth s e outside b.guard) updates (run-within s e columns variables bs r (and_right (branch_is_resolved columns variables b) (list_all (branch_is_resolved columns variables) bs) all)) is
+    let first = left_true (branch_is_resolved columns variables b) (list_all (branch_is_resolved columns variables) bs) all in
+    let updates = left_true (list_all (update_is_resolved columns variables) b.updates) (list_all (term_passes (known columns variables)) b.replies)
+    (right_true (is_ground b.guard && is_known columns variables b.guard) _ first) in
+    by_guard (truth s e outside b.guard) updates (run-within s e columns variables bs r (right_true (branch_is_resolved columns variables b) (list_all (branch_is_resolved columns variables) bs) all)) is
   where
     by_guard : (t : Bool) → list_all (update_is_resolved columns variables) b.updates ≡ true → (Some r ≡ run s e bs → AreWithin columns r.0)
         → Some r ≡ (if t then Some (writes_of s e b.updates, values_of s e b.replies) else run s e bs) → AreWithin columns r.0
@@ -113,7 +103,7 @@ pub record AreRun (s : State) (e : Env) (columns variables : ℕ) (whole rest : 
 pub run_next : (s : State) (e : Env) (columns variables : ℕ) (whole : List Branch) (b : Branch) (rest : List Branch) → AreRun s e columns variables whole (b ∷ rest)
     → FormulaFits s e b.guard → truth s e outside b.guard ≡ false → AreRun s e columns variables whole rest
 run_next s e columns variables whole b rest are fit is = record {
-  resolved = and_right (branch_is_resolved columns variables b) (list_all (branch_is_resolved columns variables) rest) are.resolved;
+  resolved = right_true (branch_is_resolved columns variables b) (list_all (branch_is_resolved columns variables) rest) are.resolved;
   rest_fits = λ w. let f = (are.rest_fits w).1 in subst (λ t. MatchBool t (UpdatesFit s e b.updates × TermsFit s e b.replies) (RunFits s e rest)) is f;
   whole_fits = λ r. are.whole_fits (fit, subst (λ t. MatchBool t (UpdatesFit s e b.updates × TermsFit s e b.replies) (RunFits s e rest)) (sym is) r);
   runs = ap (λ t. if t then Some (writes_of s e b.updates, values_of s e b.replies) else run s e rest) (sym is) ∙ are.runs;
@@ -134,17 +124,6 @@ taken_gives s e columns variables whole b rest o are fit is known = (
   ap Some known.1 ∙ ap (λ t. if t then Some (writes_of s e b.updates, values_of s e b.replies) else run s e rest) (sym is) ∙ are.runs,
 )
 
-pub dropped_all : {A : Type 0} (xs : List A) (i : ℕ) → length xs ≤ i → drop i xs ≡ []
-dropped_all [] zero le = refl
-dropped_all [] (suc i) le = refl
-dropped_all (x ∷ xs) zero le = absurd (omega arith)
-dropped_all (x ∷ xs) (suc i) le = dropped_all xs i (omega arith)
-
-each : {A : Type 0} (p : A → Bool) (xs : List A) (i : ℕ) (x : A) → list_all p xs ≡ true → slice_get xs i ≡ Some x → p x ≡ true
-each p [] i x all at = absurd cc
-each p (y ∷ xs) zero x all at = let same : y ≡ x = cc in subst (λ z. p z ≡ true) same (and_left (p y) (list_all p xs) all)
-each p (y ∷ xs) (suc i) x all at = each p xs i x (and_right (p y) (list_all p xs) all) at
-
 pub resolved_in : {A : Type 0} (columns : ℕ) (operations : List Operation) (i n : ℕ) (by : Chosen A) → list_all (operation_is_resolved columns) operations ≡ true →
     list_all (branch_is_resolved columns (2 + n + length (given_in by))) (chosen by (branches_in (slice_get operations i) n)) ≡ true
 resolved_in columns operations i n by all = chosen-resolved columns (2 + n) by (branches_in (slice_get operations i) n) (by_operation (slice_get operations i) refl)
@@ -156,8 +135,8 @@ resolved_in columns operations i n by all = chosen-resolved columns (2 + n) by (
         by_count : (b : Bool) → (length o.arguments == n) ≡ b → list_all (resolved_behind columns (2 + n)) (if b then o.branches else []) ≡ true
         by_count false is = refl
         by_count true is =
-            let whole = each (operation_is_resolved columns) operations i o all at in
-            let branches = and_left (list_all (resolved_behind columns (2 + length o.arguments)) o.branches) (list_all (λ b. length b.replies == o.replies) o.branches) whole in
+            let whole = at_all (operation_is_resolved columns) operations i o all at in
+            let branches = left_true (list_all (resolved_behind columns (2 + length o.arguments)) o.branches) (list_all (λ b. length b.replies == o.replies) o.branches) whole in
             subst (λ m. list_all (resolved_behind columns (2 + m)) o.branches ≡ true) (elim (eqb_tells (length o.arguments) n) [ inl h ↦ h.1 | inr h ↦ absurd (cc (h.0, is)) ]) branches
 
 -- what is computed of a call's branches is what is returned for the call

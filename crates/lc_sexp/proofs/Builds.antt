@@ -4,6 +4,8 @@ use Rattle.std.proofs.Math.Seq.{drop-append_seam}
 use Rattle.std.proofs.lemmas.Bool.Decides.{nat_tests}
 use Rattle.std.proofs.lemmas.List.{map-append, take_all}
 use Rattle.std.specs.List.{list_all}
+use Rattle.std.proofs.lemmas.Bool.{and_from}
+use Rattle.lc_lemmas.proofs.Booleans.{and_parts}
 use Rattle.lc_sexp.specs.Trees.{Tree, Trees, list, none, ◌▸◌, item_count, item_count_of_all}
 use Rattle.lc_sexp.specs.TreeCode.{head_tree}
 use Rattle.lc_sexp.specs.Text.{are_letters, is_Letter, class_of}
@@ -11,8 +13,7 @@ use Rattle.lc_sexp.specs.Entries.{Entry, leaf, branch, entries_of, entries_of_al
 use Rattle.lc_sexp.specs.Flat.{entry_of, entries, is_within, trees_of, IsFlat, IsOne}
 use Rattle.lc_sexp.specs.declared.node.Node.{Node}
 use Rattle.lc_sexp.specs.declared.node.Node.TheVariants.{Atom}
-use Rattle.lc_sexp.proofs.Tokens.{and_parts}
-use Rattle.lc_sexp.proofs.Nodes.{both_are_true, entries_more, within_more, within_push}
+use Rattle.lc_sexp.proofs.Nodes.{entries_more, within_more, within_push}
 use Rattle.lc_sexp.proofs.Flats.{flat_from, flat_counted}
 
 -- nodes that have the entries of one tree are this tree
@@ -45,7 +46,7 @@ pub letters_append : (text w : List ℕ) → are_letters text ≡ true → are_l
 letters_append [] w h k = k
 letters_append (b ∷ text) w h k =
     let hs = and_parts (is_Letter (class_of b)) (are_letters text) h in
-    both_are_true _ _ hs.0 (letters_append text w hs.1 k)
+    and_from _ _ hs.0 (letters_append text w hs.1 k)
 
 -- an atom after others
 pub atom_put : (text text' w : List ℕ) (nodes nodes' : List Node) (start len : ℕ) → text' ≡ text ++ w → nodes' ≡ nodes ++ (Atom start len ∷ []) → start ≡ length text → len ≡ length w

@@ -2,11 +2,11 @@
 use Rattle.std.proofs.Common.{◌≡◌, ℕ, zero, suc, ◌<◌, Bool, true, ◌&&◌, cond, slice_index_or, refl, sym, ap, ◌∙◌, arith, inl, inr, eqb-true}
 use Rattle.std.specs.Prelude.{◌==◌}
 use Rattle.std.proofs.lemmas.Bool.{cases_eq}
+use Rattle.lc_lemmas.proofs.Booleans.{and_parts}
 use Rattle.lc_sexp.specs.Text.{class_of}
 use Rattle.lc_sexp.specs.declared.class.Class.{Class}
 use Rattle.lc_sexp.specs.declared.class.Class.TheVariants.{White, Open, Close, Letter, Other}
 use Rattle.lc_sexp.specs.declared.class.TheConstants.{CLASSES}
-use Rattle.lc_sexp.proofs.Tokens.{and_parts}
 
 number : Class → ℕ
 number White = 0

@@ -4,6 +4,7 @@ use Rattle.std.specs.List.{list_all}
 use Rattle.std.proofs.Math.Seq.{take-append_seam, drop-append_seam}
 use Rattle.std.proofs.lemmas.List.{length-map, take-append-drop, take-map, drop-map, drop_all, take_all}
 use Rattle.std.proofs.lemmas.List.Folds.{list_all-append}
+use Rattle.lc_lemmas.proofs.Booleans.{and_parts}
 use Rattle.lc_sexp.specs.Trees.{Trees, list, item_count_of_all, Token, open_list, close_list, word, tokens_of, tokens_of_all}
 use Rattle.lc_sexp.specs.Text.{are_letters, begins_word, lexed}
 use Rattle.lc_sexp.specs.Entries.{Entry, branch, hole, entries_of_all, first_row, later_rows, laid, holes_from, rows_tokens}
@@ -12,7 +13,6 @@ use Rattle.lc_sexp.specs.Flat.{entry_of, entries, is_within, is_rooted, trees_of
 use Rattle.lc_sexp.specs.Progress.{told, told_tokens}
 use Rattle.lc_sexp.specs.declared.node.Node.{Node}
 use Rattle.lc_sexp.specs.declared.node.Node.TheVariants.{Atom, List as ListOf, Open}
-use Rattle.lc_sexp.proofs.Tokens.{and_parts}
 use Rattle.lc_sexp.proofs.Rows.{entries_all_counted, first_laid, later_laid, place_least}
 use Rattle.lc_sexp.proofs.Nodes.{within_more, word_lexed}
 use Rattle.lc_sexp.proofs.Flats.{flat_from}

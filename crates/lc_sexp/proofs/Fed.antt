@@ -4,6 +4,7 @@ use Rattle.std.specs.Prelude.{flat_map}
 use Rattle.std.specs.Option.{IfNone, is_some, option_to_list}
 use Rattle.std.specs.declared.alloc.Global.{Global}
 use Rattle.std.specs.declared.collections.VecDeque.{VecDeque}
+use Rattle.std.proofs.lemmas.List.{nil_from_length}
 use Rattle.lc_base.specs.declared.refusal.Fault.{Fault}
 use Rattle.lc_sexp.specs.Trees.{Trees, none, Token, open_list, tokens_of_all}
 use Rattle.lc_sexp.specs.Text.{lexed, uncommented}
@@ -22,7 +23,7 @@ use Rattle.lc_sexp.specs.declared.part.Part.{Part}
 use Rattle.lc_sexp.specs.declared.splitter.Splitter.{Splitter}
 use Rattle.lc_sexp.specs.declared.reader.Reader.{Reader}
 use Rattle.lc_sexp.proofs.Faults.{found_fault, found_trees}
-use Rattle.lc_sexp.proofs.Nodes.{letters_drop, none_listed}
+use Rattle.lc_sexp.proofs.Nodes.{letters_drop}
 use Rattle.lc_sexp.proofs.Cuts.{told_none, rooted_none}
 use Rattle.lc_sexp.proofs.Runs.{taken_on, bytes_parted_at}
 use Rattle.lc_sexp.proofs.Takings.{at_rests, same_parts}
@@ -156,7 +157,7 @@ after_none fed taken r q e h = record {
 -- a queue from which none was popped is empty
 pub if_none : (o : Option Part) (xs ys : List Part) (P : Type 0) → xs ≡ option_to_list o ++ ys → ys ≡ drop 1 xs → (xs ≡ [] → ys ≡ [] → P) → IfNone o P
 if_none None xs ys P e d f =
-    let none : xs ≡ [] = none_listed xs (omega (arith, ap length (e ∙ d), length-drop 1 xs)) in
+    let none : xs ≡ [] = nil_from_length xs (omega (arith, ap length (e ∙ d), length-drop 1 xs)) in
     f none (sym e ∙ none)
 if_none (Some p) xs ys P e d f = tt
 

@@ -6,6 +6,7 @@ use Rattle.std.proofs.lemmas.List.{length-map, take-append-drop, take-map, drop-
 use Rattle.std.proofs.Math.Seq.{take-append_seam, drop-append_seam}
 use Rattle.std.proofs.lemmas.Bool.Decides.{nat_tests}
 use Rattle.std.proofs.lemmas.List.Folds.{list_all-append}
+use Rattle.lc_lemmas.proofs.Booleans.{and_parts}
 use Rattle.lc_sexp.specs.Trees.{Trees, list, none, ◌▸◌, item_count_of_all}
 use Rattle.lc_sexp.specs.Text.{are_letters, is_Letter, class_of}
 use Rattle.lc_sexp.specs.TreeCode.{tree_count}
@@ -13,7 +14,7 @@ use Rattle.lc_sexp.specs.Entries.{Entry, branch, entries_of_all, first_items, be
 use Rattle.lc_sexp.specs.Flat.{entry_of, entries, is_within, trees_of, IsFlat}
 use Rattle.lc_sexp.specs.declared.node.Node.{Node}
 use Rattle.lc_sexp.specs.declared.node.Node.TheVariants.{Atom, List as ListOf, Open}
-use Rattle.lc_sexp.proofs.Tokens.{and_parts, Letter-from, letter_ascii}
+use Rattle.lc_sexp.proofs.Tokens.{Letter-from, letter_ascii}
 use Rattle.lc_sexp.proofs.Rows.{entries_all_counted, first_whole, item_count_some}
 use Rattle.lc_sexp.proofs.Nodes.{letters_take, letters_drop}
 

@@ -13,14 +13,15 @@ mod Flats
 pub mod Items
 mod Limits
 mod Nodes
-mod Pieced
+pub mod Pieced
 pub mod PrintedLemmas
 mod Prints
 pub mod Rows
-mod Runs
+pub mod Runs
 mod Splits
 mod Takings
-mod Tokens
+pub mod Tokens
 pub mod Unique
 mod Walks
 pub mod Whole
+pub mod Text

@@ -1,5 +1,5 @@
 -- Nodes as rows of trees.
-use Rattle.std.proofs.Common.{◌≡◌, ◌≢◌, ℕ, zero, suc, ◌+◌, ◌-◌, ◌≤◌, ◌<◌, Bool, true, false, ◌&&◌, List, [], ◌∷◌, ◌++◌, length, set, take, drop, refl, sym, ap, ◌∙◌, subst, arith, append_assoc, append-nil, length-drop, Option, Some, cond, not}
+use Rattle.std.proofs.Common.{◌≡◌, ◌≢◌, ℕ, zero, suc, ◌+◌, ◌-◌, ◌≤◌, ◌<◌, Bool, true, false, List, [], ◌∷◌, ◌++◌, length, set, take, drop, refl, sym, ap, ◌∙◌, subst, arith, append_assoc, append-nil, length-drop, Option, Some, cond, not}
 use Rattle.std.specs.Prelude.{nat_le}
 use Rattle.std.specs.List.{list_all}
 use Rattle.std.specs.Option.{option_to_list}
@@ -7,6 +7,8 @@ use Rattle.std.proofs.Math.Nat.{zero-add}
 use Rattle.std.proofs.lemmas.Bool.Decides.{nat_tests}
 use Rattle.std.proofs.lemmas.List.{map-append, map-set, length-map, take-append-le, drop-append-le, drop_all, take_all}
 use Rattle.std.proofs.lemmas.List.Folds.{list_all-append}
+use Rattle.std.proofs.lemmas.Bool.{and_from}
+use Rattle.lc_lemmas.proofs.Booleans.{and_parts}
 use Rattle.lc_sexp.specs.Trees.{Trees, Token, open_list, close_list, word, tokens_of_all}
 use Rattle.lc_sexp.specs.Text.{is_Letter, class_of, are_letters, begins_word, lexed, before}
 use Rattle.lc_sexp.specs.declared.class.Class.TheVariants.{Open as OpenClass, Close as CloseClass}
@@ -15,11 +17,8 @@ use Rattle.lc_sexp.specs.Flat.{entry_of, entries, is_within, trees_of, IsFlat, n
 use Rattle.lc_sexp.specs.Progress.{told, told_tokens}
 use Rattle.lc_sexp.specs.declared.node.Node.{Node}
 use Rattle.lc_sexp.specs.declared.node.Node.TheVariants.{Atom, List as ListOf, Open}
-use Rattle.lc_sexp.proofs.Tokens.{and_parts, lexed_word}
+use Rattle.lc_sexp.proofs.Tokens.{lexed_word}
 use Rattle.lc_sexp.proofs.Rows.{AreRows, rows_from, atom_behind, hole_behind, close_behind, place_most}
-
-pub both_are_true : (a b : Bool) → a ≡ true → b ≡ true → (a && b) ≡ true
-both_are_true a b h k = rw (h, k) refl
 
 -- letters after those of nodes change no entry
 take_drop_more : (s l : ℕ) (text more : List ℕ) → s + l ≤ length text → take l (drop s (text ++ more)) ≡ take l (drop s text)
@@ -43,17 +42,17 @@ within_more k m [] le h = refl
 within_more k m (Atom s l ∷ nodes) le h =
     let hs = and_parts (nat_le (s + l) k) (list_all (is_within k) nodes) h in
     let near = within_reads s l k hs.0 in
-    both_are_true (nat_le (s + l) m) (list_all (is_within m) nodes) (grind (arith, nat_tests)) (within_more k m nodes le hs.1)
+    and_from (nat_le (s + l) m) (list_all (is_within m) nodes) (grind (arith, nat_tests)) (within_more k m nodes le hs.1)
 within_more k m (ListOf n ∷ nodes) le h = within_more k m nodes le h
 within_more k m (Open ∷ nodes) le h = within_more k m nodes le h
 
 pub within_push : (k : ℕ) (nodes : List Node) (x : Node) → list_all (is_within k) nodes ≡ true → is_within k x ≡ true → list_all (is_within k) (nodes ++ (x ∷ [])) ≡ true
-within_push k nodes x h e = list_all-append (is_within k) nodes (x ∷ []) ∙ both_are_true _ _ h (both_are_true (is_within k x) true e refl)
+within_push k nodes x h e = list_all-append (is_within k) nodes (x ∷ []) ∙ and_from _ _ h (and_from (is_within k x) true e refl)
 
 within_set : (k : ℕ) (nodes : List Node) (i n : ℕ) → list_all (is_within k) nodes ≡ true → list_all (is_within k) (set nodes i (ListOf n)) ≡ true
 within_set k [] i n h = refl
 within_set k (x ∷ nodes) zero n h = (and_parts (is_within k x) _ h).1
-within_set k (x ∷ nodes) (suc i) n h = let hs = and_parts (is_within k x) _ h in both_are_true _ _ hs.0 (within_set k nodes i n hs.1)
+within_set k (x ∷ nodes) (suc i) n h = let hs = and_parts (is_within k x) _ h in and_from _ _ hs.0 (within_set k nodes i n hs.1)
 
 -- more letters at the end of the text
 pub under_way_letters : (text text' : List ℕ) (start : ℕ) (more : List ℕ) (nodes : List Node) (holes : List ℕ) → text' ≡ text ++ more → start ≤ length text
@@ -114,7 +113,7 @@ letters_drop (b ∷ text) (suc start) h = letters_drop text start (and_parts (is
 pub letters_take : (text : List ℕ) (n : ℕ) → are_letters text ≡ true → are_letters (take n text) ≡ true
 letters_take text zero h = refl
 letters_take [] (suc n) h = refl
-letters_take (b ∷ text) (suc n) h = let hs = and_parts (is_Letter (class_of b)) (are_letters text) h in both_are_true _ _ hs.0 (letters_take text n hs.1)
+letters_take (b ∷ text) (suc n) h = let hs = and_parts (is_Letter (class_of b)) (are_letters text) h in and_from _ _ hs.0 (letters_take text n hs.1)
 
 -- a word before a text that begins none
 pub word_lexed : (w rest : List ℕ) → length w ≢ 0 → are_letters w ≡ true → begins_word rest ≡ false → word w ∷ lexed rest ≡ lexed (w ++ rest)
@@ -236,10 +235,6 @@ pub told_word : (text : List ℕ) (start end : ℕ) (nodes nodes' : List Node) (
 told_word text start end nodes nodes' holes rest at le some letters e h b =
     subst (λ n. start ≤ n → start ≢ n → nodes' ≡ nodes ++ (Atom start (n - start) ∷ []) → told text n nodes' rest ≡ told text start nodes rest) (sym at)
     (λ le some e. told_ended text start nodes nodes' holes rest le some letters e h b) le some e
-
-pub none_listed : {A : Type 0} (xs : List A) → length xs ≡ 0 → xs ≡ []
-none_listed [] e = refl
-none_listed (x ∷ xs) e = absurd (cc)
 
 -- a bracket after a word that has ended
 pub told_bracket : (text text' text'' : List ℕ) (start start' start'' : ℕ) (nodes nodes' nodes'' : List Node) (tok : Token) (b : ℕ) (rest : List ℕ)

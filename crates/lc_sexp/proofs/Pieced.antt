@@ -3,13 +3,13 @@ use Rattle.std.proofs.Common.{◌≡◌, ℕ, Bool, true, false, ◌==◌, List,
 use Rattle.std.specs.List.{remove}
 use Rattle.std.proofs.lemmas.Bool.Decides.{nat_tests}
 use Rattle.std.specs.Prelude.{MatchBool}
+use Rattle.lc_lemmas.proofs.Booleans.{and_parts}
 use Rattle.lc_base.specs.declared.refusal.Fault.TheVariants.{Refused}
 use Rattle.lc_base.specs.declared.refusal.Refusal.{Refusal}
 use Rattle.lc_base.specs.declared.refusal.Refusal.TheVariants.{Text}
 use Rattle.lc_sexp.proofs.Builds.{one_from}
 use Rattle.lc_sexp.proofs.Faults.{no_fault_lem, found_fault}
 use Rattle.lc_sexp.proofs.Runs.{same_last}
-use Rattle.lc_sexp.proofs.Tokens.{and_parts}
 use Rattle.lc_sexp.proofs.Unique.{one_reading_lem}
 use Rattle.lc_sexp.specs.Answers.{IsTextFault}
 use Rattle.lc_sexp.specs.CutFiles.{ends_in_comment, bracketed, IsClosed, IsOnly, IsPieceOf, IsPieceRead}

@@ -5,8 +5,10 @@ use Rattle.std.specs.List.{list_all}
 use Rattle.std.proofs.Math.Seq.{take-add}
 use Rattle.std.proofs.lemmas.Bool.Decides.{nat_tests}
 use Rattle.std.proofs.lemmas.List.{take_more, take_all, length-map, take-append-drop}
+use Rattle.std.proofs.lemmas.Bool.{and_from}
+use Rattle.lc_lemmas.proofs.Booleans.{and_parts}
 use Rattle.lc_base.specs.Limits.{file_limit}
-use Rattle.lc_sexp.proofs.Tokens.{and_parts, Letter-from}
+use Rattle.lc_sexp.proofs.Tokens.{Letter-from}
 use Rattle.lc_sexp.specs.Text.{class_of, is_Letter, are_letters, begins_word, lexed, before, uncommented, is_misplaced}
 use Rattle.lc_sexp.specs.Progress.{told, told_tokens, fault_from, depth_behind}
 use Rattle.lc_sexp.specs.Runs.{AreOf, IsCount, AreSeen, IsRun, IsBeforeWhite}
@@ -15,14 +17,13 @@ use Rattle.lc_sexp.specs.declared.node.Node.{Node}
 use Rattle.lc_sexp.specs.declared.run.Run.{Run}
 use Rattle.lc_sexp.specs.declared.class.Class.{Class}
 use Rattle.lc_sexp.specs.declared.class.Class.TheVariants.{White, Open, Close, Letter, Other}
-use Rattle.lc_sexp.proofs.Nodes.{both_are_true}
 use Rattle.lc_sexp.proofs.Cuts.{told_ended_at}
 use Rattle.lc_sexp.proofs.Cutting.{uncommented_behind}
 
 -- letters are letters
 pub letters_of : (seen : List ℕ) → AreOf Letter seen → are_letters seen ≡ true
 letters_of [] h = refl
-letters_of (b ∷ s) h = both_are_true (is_Letter (class_of b)) (are_letters s) (ap is_Letter h.0) (letters_of s h.1)
+letters_of (b ∷ s) h = and_from (is_Letter (class_of b)) (are_letters s) (ap is_Letter h.0) (letters_of s h.1)
 
 -- white bytes make no tokens
 lexed_whites : (seen rest : List ℕ) → AreOf White seen → lexed (seen ++ rest) ≡ lexed rest
@@ -188,8 +189,8 @@ single : (bytes : List ℕ) (d : ℕ) → 0 < length bytes → take 1 bytes ≡ 
 single [] d some = absurd (omega (arith, some))
 single (b ∷ s) d some = refl
 
-plain : (b : ℕ) (rest : List ℕ) → b ≢ 59 → uncommented false (b ∷ rest) ≡ b ∷ uncommented false rest
-plain b rest other = by_test (b == 10) refl where
+pub uncommented_plain_byte : (b : ℕ) (rest : List ℕ) → b ≢ 59 → uncommented false (b ∷ rest) ≡ b ∷ uncommented false rest
+uncommented_plain_byte b rest other = by_test (b == 10) refl where
   by_test : (t : Bool) → (b == 10) ≡ t → uncommented false (b ∷ rest) ≡ b ∷ uncommented false rest
   by_test true e = let is : b ≡ 10 = grind (arith, nat_tests) in rw is refl
   by_test false e = let semi : (b == 59) ≡ false = grind (arith, nat_tests) in rw (e, semi) refl
@@ -213,7 +214,7 @@ byte_alone bytes d k some other e =
       seen = b ∷ [];
       counts = record { of_class = (e, tt); size = sym (ap length same); count = alone_counts k; letters = λ k. sym same };
       outside = λ k. refl;
-      uncomments = λ rest. ap (λ x. uncommented false (x ++ rest)) same ∙ plain b rest other;
+      uncomments = λ rest. ap (λ x. uncommented false (x ++ rest)) same ∙ uncommented_plain_byte b rest other;
     }
 
 abbrev pub is_Other : Class → Bool
@@ -223,7 +224,7 @@ is_Other Open = false
 is_Other Close = false
 is_Other Letter = false
 
-letter_plain : (b : ℕ) → is_Letter (class_of b) ≡ true → b ≢ 59
+pub letter_plain : (b : ℕ) → is_Letter (class_of b) ≡ true → b ≢ 59
 unfolding class_of
 letter_plain b h = λ e. let f : is_Letter (class_of 59) ≡ true = ap (λ x. is_Letter (class_of x)) (sym e) ∙ h in absurd (cc)
 
@@ -231,7 +232,7 @@ letters_plain : (w rest : List ℕ) → are_letters w ≡ true → uncommented f
 letters_plain [] rest h = refl
 letters_plain (b ∷ w) rest h =
     let hs = and_parts (is_Letter (class_of b)) (are_letters w) h in
-    plain b (w ++ rest) (letter_plain b hs.0) ∙ ap (λ x. b ∷ x) (letters_plain w rest hs.1)
+    uncommented_plain_byte b (w ++ rest) (letter_plain b hs.0) ∙ ap (λ x. b ∷ x) (letters_plain w rest hs.1)
 
 of_letters : (w : List ℕ) → are_letters w ≡ true → AreOf Letter w
 of_letters [] h = tt
@@ -305,7 +306,7 @@ uncommented_word c bytes run h w rest =
     ∙ ap (uncommented c) (append_assoc (take run.length bytes) (b ∷ []) rest)
     ∙ h.uncomments (b ∷ rest)
     ∙ ap (λ d. h.seen ++ uncommented d (b ∷ rest)) (h.outside w.word)
-    ∙ ap (λ x. h.seen ++ x) (plain b rest (no_comment b White (sym w.white) refl))
+    ∙ ap (λ x. h.seen ++ x) (uncommented_plain_byte b rest (no_comment b White (sym w.white) refl))
 
 pub fault_word : (c c' : Bool) (bytes : List ℕ) (run : Run) (offset offset' depth depth' : ℕ) → IsRun c bytes run → IsBeforeWhite run bytes → offset + length bytes ≤ file_limit
     → offset' ≡ offset + (run.length + 1) → depth' ≡ depth_behind depth run.class → c' ≡ false

@@ -2,6 +2,7 @@
 use Rattle.std.proofs.Common.{◌≡◌, ℕ, ◌<◌, Bool, true, false, ◌&&◌, cond, List, [], ◌∷◌, ◌++◌, refl, ap, ◌∙◌, arith}
 use Rattle.std.proofs.lemmas.Bool.Decides.{nat_tests}
 use Rattle.std.proofs.lemmas.List.Folds.{list_all-append}
+use Rattle.lc_lemmas.proofs.Booleans.{and_parts}
 use Rattle.lc_sexp.specs.Trees.{Token, word}
 use Rattle.lc_sexp.specs.Text.{class_of, is_Letter, are_letters, begins_word, lexed, before}
 use Rattle.lc_sexp.specs.declared.class.Class.{Class}
@@ -13,10 +14,6 @@ Letter-from White h = cc
 Letter-from Open h = cc
 Letter-from Close h = cc
 Letter-from Other h = cc
-
-pub and_parts : (a b : Bool) → (a && b) ≡ true → (a ≡ true) × (b ≡ true)
-and_parts true b h = (refl, h)
-and_parts false b h = cc
 
 -- a letter before a text that begins no word
 letter_alone : (k : Class) (b : ℕ) (ts : List Token) → k ≡ Letter → before k b false ts ≡ word (b ∷ []) ∷ ts

@@ -1,13 +1,13 @@
 -- The step of an edge is an instance of its action.
 use Rattle.std.proofs.Common.{◌≡◌, ℕ, zero, suc, ◌+◌, ◌<◌, ◌≤◌, ◌&&◌, if◌then◌else◌, nat_lt, Bool, true, false, List, [], ◌∷◌, ℤ, pos, Some, map, refl, sym, ap, ◌∙◌, subst, arith, ltb-true, ltb-false, eqb-true}
 use mathlib.Core.Path.{fun_ext}
+use Rattle.lc_lemmas.proofs.Booleans.{left_true, right_true}
 use Rattle.lc_term.specs.Updates.{Update, Write, stored_all, writes_of, variable}
 use Rattle.lc_term.specs.Syntax.{Term, Variable, Column, Base, Store, Affine, Formula}
 use Rattle.lc_term.specs.Meaning.{State, Env, outside, value, column, Holds, EachHolds}
 use Rattle.lc_term.proofs.Replacement.{column-raised}
 use Rattle.lc_object.specs.Edges.{Edge}
 use Rattle.lc_term.specs.Lists.{Every}
-use Rattle.lc_term.proofs.Tests.{left_true, right_true}
 use Rattle.lc_term.specs.Said.{after}
 use Rattle.lc_term.specs.SystemColumns.{column_count}
 use Rattle.lc_action.specs.Action.{Action, Acts, acting_variables}

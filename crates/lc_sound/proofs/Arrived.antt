@@ -9,7 +9,7 @@ use Rattle.std.proofs.lemmas.List.{length-set}
 use Rattle.std.proofs.lemmas.Option.{same_Some, slice_get_within}
 use Rattle.lc_term.specs.Updates.{Update, stored_all, variable, assigned}
 use Rattle.lc_term.specs.Meaning.{State, Env, outside, value, EachHolds}
-use Rattle.lc_hist.proofs.Tables.{slice_get-set, slice_get-set_other}
+use Rattle.lc_history.proofs.Tables.{slice_get-set, slice_get-set_other}
 use Rattle.lc_object.specs.Syntax.{Operation, Point}
 use Rattle.lc_object.specs.Edges.{Edge, edges}
 use Rattle.lc_machine.specs.World.{Client, Idle, In, World}
@@ -33,10 +33,7 @@ use Rattle.lc_sound.proofs.Others.{FrameAt, frame_at, frame_kept, Moved, Same, B
 use Rattle.lc_sound.proofs.Rideable.{Only}
 use Rattle.lc_sound.proofs.Lifting as L
 use Rattle.lc_sound.proofs.Going as Y
-
-pub in_back : {A : Type 0} (x : A) (xs ys : List A) → IsIn x ys → IsIn x (xs ++ ys)
-in_back x [] ys h = h
-in_back x (z ∷ zs) ys h = inr (in_back x zs ys h)
+use Rattle.lc_machine.proofs.EdgeLaw.{in_back}
 
 pub in_front : {A : Type 0} (x : A) (xs ys : List A) (k : ℕ) → slice_get xs k ≡ Some x → IsIn x (xs ++ ys)
 in_front x [] ys k e = absurd cc

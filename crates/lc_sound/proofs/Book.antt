@@ -4,12 +4,13 @@ use Rattle.std.specs.Prelude.{slice_get}
 use Rattle.std.proofs.lemmas.Int.{ints}
 use Rattle.std.proofs.lemmas.List.{map-append}
 use Rattle.std.proofs.lemmas.Bool.{eqb-false}
+use Rattle.lc_lemmas.proofs.Numbers.{equal_other_way}
 use Rattle.lc_term.specs.Updates.{Write, stored_all, write_of, row}
 use Rattle.lc_term.specs.Meaning.{State, Env}
 use Rattle.lc_seq.specs.Sequential.{Call, Choice, Sequential, given_in}
 use Rattle.lc_seq.specs.Specification.{Operation, chosen}
 use Rattle.lc_seq.specs.TextStep.{run, call_env, text_step}
-use Rattle.lc_hist.specs.History.{Entry}
+use Rattle.lc_history.specs.History.{Entry}
 use Rattle.lc_object.specs.Syntax.{Point, Object}
 use Rattle.lc_object.specs.Edges.{Edge}
 use Rattle.lc_object.specs.declared.instr.EdgeKind.{EdgeKind}
@@ -26,7 +27,6 @@ use Rattle.lc_outline.specs.Resolved.{IsResolved, IsRiderResolved, IsDeedResolve
 use Rattle.lc_sound.specs.Happening.{Happening, Marked, put}
 use Rattle.lc_sound.specs.Order.{marked}
 use Rattle.lc_sound.specs.Lawful.{Phase, Free, Waiting, Noted, Done, Takes, Leaves, IsLawful}
-use Rattle.lc_sound.proofs.Own.{same_client}
 use Rattle.lc_sound.proofs.Kept.{call_in}
 use Rattle.lc_term.proofs.Stores.{stored-append, writes_other}
 use Rattle.lc_seq.proofs.Abstract.{abstract_of, run-abstract, IsRun, run_is, stored-abstract, same-abstract}
@@ -39,7 +39,7 @@ same_put : (phases : ℕ → Phase) (c : ℕ) (q : Phase) → call_in q ≡ call
 same_put phases c q is d = go (d == c) refl
   where
     go : (b : Bool) → (d == c) ≡ b → call_in (cond b q (phases d)) ≡ call_in (phases d)
-    go true e = is ∙ ap (λ k. call_in (phases k)) (sym (same_client c d e))
+    go true e = is ∙ ap (λ k. call_in (phases k)) (sym (equal_other_way c d e))
     go false e = refl
 
 still_last : (phases after : ℕ → Phase) (last : ℕ → Call) → ((c : ℕ) → call_in (after c) ≡ call_in (phases c))
@@ -115,7 +115,7 @@ module _ (D : Development) (R : IsResolved D) where
   matched phases s t c q all here away d = go (d == c) refl
     where
       go : (b : Bool) → (d == c) ≡ b → Matches ops (cond b q (phases d)) (row_of first t d)
-      go true e = subst (λ x. Matches ops q (row_of first t x)) (sym (same_client c d e)) here
+      go true e = subst (λ x. Matches ops q (row_of first t x)) (sym (equal_other_way c d e)) here
       go false e = subst (Matches ops (phases d)) (sym (away d (eqb-false d c e))) (all d)
 
   module _ (last : ℕ → Call) where

@@ -9,19 +9,19 @@ use Rattle.std.proofs.lemmas.List.{length-set, length-replicate, map-append}
 use Rattle.std.proofs.Math.ListN.{get_or-append}
 use Rattle.std.proofs.lemmas.Option.{same_Some, slice_get_within}
 use mathlib.Core.Path.{fun_ext}
+use Rattle.lc_lemmas.proofs.Booleans.{left_true, right_true}
 use Rattle.lc_term.specs.Updates.{stored_all, writes_of, variable}
 use Rattle.lc_term.specs.Syntax.{Number, Variable, Base, Formula, Le}
 use Rattle.lc_term.specs.Meaning.{State, Env, outside, value, column, affine, EachHolds}
 use Rattle.lc_term.specs.State.{initial_state}
 use Rattle.lc_term.proofs.Substituted.{Holds-replacing}
-use Rattle.lc_hist.proofs.Tables.{slice_get-set, slice_get-set_other}
+use Rattle.lc_history.proofs.Tables.{slice_get-set, slice_get-set_other}
 use Rattle.lc_object.specs.Syntax.{Operation, Object}
 use Rattle.lc_object.specs.WellFormed.{is_object, is_first, are_operations, has_limits}
 use Rattle.lc_machine.specs.World.{Client, Idle, In, World, first_variables}
 use Rattle.lc_machine.specs.Step.{IsClient}
 use Rattle.lc_machine.proofs.Promised.{first_count}
 use Rattle.lc_term.specs.Lists.{concat_places, Every}
-use Rattle.lc_term.proofs.Tests.{left_true, right_true}
 use Rattle.lc_object.proofs.ObjectParts.{operations_pass, first_stands}
 use Rattle.lc_term.specs.Said.{told, variables_from}
 use Rattle.lc_term.specs.SystemColumns.{pend, op_column, arg_columns, noted}
@@ -37,13 +37,13 @@ use Rattle.lc_term.proofs.Stores.{Every_left, Every_right, writes_away}
 use Rattle.lc_term.proofs.Symbolic.{columns_by, values_by, columns_by-after, each_told, each-append}
 use Rattle.lc_sound.proofs.Stable.{each_agree}
 use Rattle.lc_outline.proofs.Matched.{match_at, arity_and_replies_few}
-use Rattle.lc_sound.proofs.RowChanges.{invoked_row, invocation_at}
+use Rattle.lc_sound.proofs.RowChanges.{invocation_at}
 use Rattle.lc_sound.proofs.Rideable.{Only, at_other}
 use Rattle.lc_sound.proofs.Going.{valid_goals}
 use Rattle.lc_sound.proofs.Ordered.{system_start}
 use Rattle.lc_sound.proofs.Others.{FrameAt, By, other_good, Every-places}
-use Rattle.lc_sound.proofs.Arrived.{in_back}
 use Rattle.lc_sound.proofs.Gone.{Led, label_point}
+use Rattle.lc_machine.proofs.EdgeLaw.{in_back}
 
 -- ---- the start
 

@@ -1,11 +1,12 @@
 -- If one call precedes another, it comes earlier in the order.
 use Rattle.std.proofs.Common.{◌≡◌, ℕ, zero, suc, ◌+◌, ◌<◌, ◌≤◌, Bool, true, false, ◌==◌, cond, List, [], ◌∷◌, ℤ, take, subst, inl, inr, arith}
+use Rattle.lc_lemmas.proofs.Numbers.{equal_other_way}
 use Rattle.lc_seq.specs.Sequential.{Call}
-use Rattle.lc_hist.specs.History.{Event, Called, Replied, Entry, is_call, is_return, is_of, count, IsPlace, Precedes}
-use Rattle.lc_hist.proofs.Places.{count_longer_front, count_behind_place}
+use Rattle.lc_history.specs.History.{Event, Called, Replied, Entry, is_call, is_return, is_of, count, IsPlace, Precedes}
+use Rattle.lc_history.proofs.Places.{count_longer_front, count_behind_place}
 use Rattle.lc_sound.specs.Happening.{Happening, Happens, Marked, client_of, events, returns_next, counted}
 use Rattle.lc_sound.specs.Lawful.{Phase, Free, Waiting, Noted, Done, Takes, calls, returns_done, returns_noted, marks, marks_noted, notes, notes_again}
-use Rattle.lc_sound.proofs.Own.{IsOwn, same_client}
+use Rattle.lc_sound.proofs.Own.{IsOwn}
 
 -- how many entries come before the j-th event
 abbrev pub cut : List Happening → ℕ → ℕ
@@ -65,9 +66,9 @@ cut_here c _ _ _ hs j returns_noted e rest = let r = rest j in rw e (omega arith
 cut_here c _ _ _ hs j marks e rest = let r = rest (suc j) in rw e (omega arith)
 cut_here c _ _ _ hs j marks_noted e rest = let r = rest (suc j) in rw e (omega arith)
 cut_here c _ _ _ hs j (notes {e = entry}) e rest =
-    note_here c entry.call entry.reply (take (suc j) (events hs)) entry (counted hs) (cut hs (suc j)) e (returns_next entry.client hs) (rw (same_client c entry.client e) (rest (suc j)))
+    note_here c entry.call entry.reply (take (suc j) (events hs)) entry (counted hs) (cut hs (suc j)) e (returns_next entry.client hs) (rw (equal_other_way c entry.client e) (rest (suc j)))
 cut_here c _ _ _ hs j (notes_again {e = entry}) e rest =
-    rw e (note_here c entry.call entry.reply (take (suc j) (events hs)) entry (counted hs) (cut hs (suc j)) e (returns_next entry.client hs) (rw (same_client c entry.client e) (rest (suc j))))
+    rw e (note_here c entry.call entry.reply (take (suc j) (events hs)) entry (counted hs) (cut hs (suc j)) e (returns_next entry.client hs) (rw (equal_other_way c entry.client e) (rest (suc j))))
 
 cut_away : (c : ℕ) (p : Phase) (h : Happening) (hs : List Happening) (j : ℕ) → (client_of h == c) ≡ false → ((i : ℕ) → IsCut c p hs i) → IsCut c p (h ∷ hs) (suc j)
 cut_away c p (Happens (Called d call)) hs j e rest = rw e (rest j)

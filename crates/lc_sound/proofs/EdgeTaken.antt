@@ -1,8 +1,10 @@
 -- The instrumented steps that go by an edge are those of its paths.
-use Rattle.std.proofs.Common.{◌≡◌, ◌↔◌, ℕ, ◌+◌, ◌≤◌, ◌⊎◌, ◌&&◌, true, List, [], ◌∷◌, ℤ, pos, Option, Some, None, map, length, take, refl, sym, ap, ap₂, ◌∙◌, subst, inl, inr, arith}
+use Rattle.std.proofs.Common.{◌≡◌, ◌↔◌, ℕ, ◌+◌, ◌≤◌, ◌⊎◌, true, List, [], ◌∷◌, ℤ, pos, Option, Some, None, map, length, take, refl, sym, ap, ◌∙◌, subst, inl, inr, arith}
 use Rattle.std.specs.Prelude.{slice_get}
 use Rattle.std.specs.List.{list_all}
 use Rattle.std.proofs.lemmas.Option.{same_Some, slice_get_within}
+use Rattle.lc_base.specs.Limits.{reply_limit}
+use Rattle.lc_lemmas.proofs.Booleans.{left_true, right_true}
 use Rattle.lc_term.specs.Lists.{Every, IsIn}
 use Rattle.lc_term.specs.Meaning.{State, Env, outside, Holds, AllHold, EachHolds}
 use Rattle.lc_term.specs.Said.{told}
@@ -12,12 +14,11 @@ use Rattle.lc_term.specs.SystemColumns.{pend, rep_columns, noted, note_columns}
 use Rattle.lc_term.specs.Updates.{Update, stored_all, values_of, variable, assigned, row}
 use Rattle.lc_term.proofs.Stores.{Every-map}
 use Rattle.lc_term.proofs.Symbolic.{columns_by, values_by, columns_by-put, each_told, each_told_back}
-use Rattle.lc_term.proofs.Tests.{left_true, right_true}
 use Rattle.lc_seq.specs.Branches.{op_branches}
 use Rattle.lc_seq.specs.Sequential.{given_in}
-use Rattle.lc_seq.specs.Specification.{Branch, Operation, branch_is_resolved, update_is_resolved}
+use Rattle.lc_seq.specs.Specification.{Branch, Operation, update_is_resolved}
 use Rattle.lc_seq.proofs.Choosing.{resolved_behind}
-use Rattle.lc_hist.proofs.Tables.{slice_get-set}
+use Rattle.lc_history.proofs.Tables.{slice_get-set}
 use Rattle.lc_object.specs.Edges.{Edge, edges}
 use Rattle.lc_object.specs.Places.{operation_at}
 use Rattle.lc_object.specs.Syntax.{Instr, Point}
@@ -284,7 +285,7 @@ module _ (D : Development) (R : IsResolved D) (w : World) (c : ℕ) (vs : List �
   still : e.next ≡ None → vs ≡ new
   still is = ap (λ rs. assigned vs rs (numbers s vs e.values)) (sym (return_is is).targets)
 
-  short : e.next ≡ None → length e.replies ≤ 3
+  short : e.next ≡ None → length e.replies ≤ reply_limit
   short is =
       let pl = point_is_placed D.object R.object e.point pt pt-is in
       let a = (match_at D R pt.operation pl.operation pl.is).replies in

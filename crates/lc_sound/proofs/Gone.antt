@@ -3,6 +3,7 @@ use Rattle.std.proofs.Common.{◌≡◌, ℕ, suc, ◌+◌, ◌≤◌, ◌⊎◌
 use Rattle.std.specs.Prelude.{slice_get}
 use Rattle.std.proofs.lemmas.Bool.{eqb-true}
 use Rattle.std.proofs.lemmas.Option.{same_Some}
+use Rattle.lc_lemmas.proofs.Booleans.{left_true, right_true}
 use Rattle.lc_term.specs.Updates.{variable, assigned}
 use Rattle.lc_term.specs.Meaning.{State, EachHolds}
 use Rattle.lc_object.specs.Syntax.{Instr, Load, Store, Cas, Set, Faa, If, Return, Operation, Point, Object}
@@ -13,7 +14,6 @@ use Rattle.lc_machine.specs.World.{In}
 use Rattle.lc_machine.specs.Step.{Does, Outcome, numbers}
 use Rattle.lc_machine.specs.EdgeSteps.{updated, reached, IsIn}
 use Rattle.lc_machine.proofs.EdgeLaw.{in_either, of_point, by_edge}
-use Rattle.lc_term.proofs.Tests.{left_true, right_true}
 use Rattle.lc_object.specs.Places.{operation_in}
 use Rattle.lc_outline.specs.Development.{Development, first_system, on_at}
 use Rattle.lc_outline.specs.Resolved.{IsOnResolved}

@@ -16,11 +16,12 @@ use Rattle.lc_rider.specs.Rider.{Mark, argument}
 use Rattle.lc_outline.specs.Development.{Development, On, first_system, on_at}
 use Rattle.lc_outline.specs.Resolved.{IsOnResolved}
 use Rattle.lc_sound.specs.Claims.{IsProven, IsGood, IsEdgeAction}
-use Rattle.lc_sound.specs.Instrumented.{Label, Instrumented, start_world}
+use Rattle.lc_sound.specs.Instrumented.{Instrumented, start_world}
 use Rattle.lc_sound.specs.Rely.{Guarantee, StepsAreInGuarantees}
-use Rattle.lc_sound.proofs.Arrived.{in_front, in_back}
+use Rattle.lc_sound.proofs.Arrived.{in_front}
 use Rattle.lc_sound.proofs.Calling as C
 use Rattle.lc_sound.proofs.Simulated.{at_edge, good_run, step_acts}
+use Rattle.lc_machine.proofs.EdgeLaw.{in_back}
 
 -- the action at an edge, if there is one, has as many parameters as there are arguments
 abbrev Fits : Development → Option On → Type 0

@@ -1,7 +1,7 @@
 -- If each bare run has an instrumented run over it, each history is linearizable.
 use Rattle.std.proofs.Common.{ap, subst}
 use Rattle.lc_seq.specs.TextStep.{text_step, start_of}
-use Rattle.lc_hist.specs.History.{Linearizes}
+use Rattle.lc_history.specs.History.{Linearizes}
 use Rattle.lc_sound.specs.Instrumented.{bare_history}
 use Rattle.lc_sound.specs.Order.{order}
 use Rattle.lc_sound.specs.Claims.{RunsAreSimulated, Headline}

@@ -1,10 +1,11 @@
 -- A client's entries are its returned calls, with or without its pending call.
 use Rattle.std.proofs.Common.{◌≡◌, ℕ, Bool, true, false, ◌==◌, cond, ◌⊎◌, List, [], ◌∷◌, ◌++◌, ℤ, Option, Some, None, refl, ap, subst, inl, inr}
+use Rattle.lc_lemmas.proofs.Numbers.{equal_other_way}
 use Rattle.lc_seq.specs.Sequential.{Call}
-use Rattle.lc_hist.specs.History.{Event, Called, Replied, Entry, entries_of, returned_of, pending_of, AreCalls}
+use Rattle.lc_history.specs.History.{Event, Called, Replied, Entry, entries_of, returned_of, pending_of, AreCalls}
 use Rattle.lc_sound.specs.Happening.{Happening, Happens, Marked, client_of, events, returns_next, counted}
 use Rattle.lc_sound.specs.Lawful.{Phase, Free, Waiting, Noted, Done, Takes, calls, returns_done, returns_noted, marks, marks_noted, notes, notes_again}
-use Rattle.lc_sound.proofs.Own.{IsOwn, same_client}
+use Rattle.lc_sound.proofs.Own.{IsOwn}
 
 abbrev pub call_in : Phase → Option Call
 call_in Free = None
@@ -53,9 +54,9 @@ kept_here c _ _ _ hs (returns_noted {call = call} {reply = reply}) e rest = rw e
 kept_here c _ _ _ hs marks e rest = rw e rest
 kept_here c _ _ _ hs marks_noted e rest = rw e rest
 kept_here c _ _ _ hs (notes {e = entry}) e rest =
-    note_here c entry.call (events hs) entry (counted hs) e (returns_next entry.client hs) (rw (same_client c entry.client e) rest)
+    note_here c entry.call (events hs) entry (counted hs) e (returns_next entry.client hs) (rw (equal_other_way c entry.client e) rest)
 kept_here c _ _ _ hs (notes_again {e = entry}) e rest =
-    rw e (note_here c entry.call (events hs) entry (counted hs) e (returns_next entry.client hs) (rw (same_client c entry.client e) rest))
+    rw e (note_here c entry.call (events hs) entry (counted hs) e (returns_next entry.client hs) (rw (equal_other_way c entry.client e) rest))
 
 kept_away : (c : ℕ) (p : Phase) (h : Happening) (hs : List Happening) → (client_of h == c) ≡ false → IsKept c p hs → IsKept c p (h ∷ hs)
 kept_away c p (Happens (Called d call)) hs e rest = rw e rest

@@ -2,6 +2,7 @@
 use Rattle.std.proofs.Common.{◌≡◌, ℕ, ◌+◌, ◌<◌, ◌≤◌, true, List, [], ◌∷◌, ◌++◌, Option, Some, None, length, refl, sym, ap, ap₂, ◌∙◌, subst, inl, inr, arith, ltb-true}
 use Rattle.std.specs.List.{list_all}
 use Rattle.std.proofs.lemmas.Bool.{eqb-true}
+use Rattle.lc_lemmas.proofs.Booleans.{left_true, right_true}
 use Rattle.lc_term.specs.Updates.{Write, write_of, values_of}
 use Rattle.lc_term.specs.Syntax.{Term, Formula}
 use Rattle.lc_term.specs.Meaning.{State, Env, outside}
@@ -16,7 +17,6 @@ use Rattle.lc_object.specs.WellFormed.{is_instruction, variable_count, is_code_t
 use Rattle.lc_machine.specs.EdgeSteps.{IsIn}
 use Rattle.lc_machine.proofs.Known.{known_term}
 use Rattle.lc_term.specs.Lists.{Every}
-use Rattle.lc_term.proofs.Tests.{left_true, right_true}
 use Rattle.lc_seq.specs.Branches.{op_branches, arity, op_replies}
 use Rattle.lc_rider.specs.Rider.{Mark, Own, Other, Note, Deed, Assign, Marks, Rider, arguments_in, choice_at, IsSettled, IsDone, IsDoneWhere, RideAll, mark_writes, note_writes}
 use Rattle.lc_outline.specs.Development.{Development, first_system}

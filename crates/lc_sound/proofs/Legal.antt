@@ -1,7 +1,7 @@
 -- The order is legal: notes leave the sequential state as it is, so those that do not count can be left out.
 use Rattle.std.proofs.Common.{◌≡◌, ℕ, Bool, true, false, cond, List, [], ◌∷◌, Some, subst}
 use Rattle.lc_seq.specs.Sequential.{Sequential}
-use Rattle.lc_hist.specs.History.{Entry, IsLegal}
+use Rattle.lc_history.specs.History.{Entry, IsLegal}
 use Rattle.lc_sound.specs.Happening.{Happening, Happens, Marked, client_of, returns_next, counted, put}
 use Rattle.lc_sound.specs.Lawful.{Phase, IsLawful}
 

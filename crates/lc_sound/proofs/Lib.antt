@@ -7,10 +7,10 @@ mod Rows
 mod RowChanges
 mod Book
 mod Steps
-mod Ordered
+pub mod Ordered
 mod Leaving
-mod Standing
-mod Once
+pub mod Standing
+pub mod Once
 mod Headline
 mod Rideable
 mod Lifting

@@ -2,10 +2,11 @@
 use Rattle.std.proofs.Common.{◌≡◌, ℕ, ◌≤◌, List, [], ◌∷◌, ℤ, Option, Some, None, map, length, refl, sym, ap, ◌∙◌, subst, arith}
 use Rattle.std.specs.Prelude.{slice_get}
 use Rattle.std.proofs.lemmas.Option.{slice_get_within}
+use Rattle.lc_base.specs.Limits.{reply_limit}
 use Rattle.lc_term.specs.Updates.{stored_all, values_of, variable, assigned}
 use Rattle.lc_machine.specs.Runs.{BareLabel, BareRuns}
 use Rattle.lc_term.specs.Meaning.{State, EachHolds}
-use Rattle.lc_hist.proofs.Tables.{slice_get-set}
+use Rattle.lc_history.proofs.Tables.{slice_get-set}
 use Rattle.lc_object.specs.Edges.{Edge}
 use Rattle.lc_object.specs.declared.instr.EdgeKind.{EdgeKind}
 use Rattle.lc_object.specs.declared.instr.EdgeKind.TheVariants.{Next}
@@ -13,7 +14,7 @@ use Rattle.lc_machine.specs.World.{In, World, initial_world}
 use Rattle.lc_machine.specs.Step.{Event, Invoked, Moved, Returned, IsClient, Steps, Goes, Answers, numbers}
 use Rattle.lc_machine.specs.EdgeSteps.{updated}
 use Rattle.lc_rider.specs.Rider.{RideAll, IsJustified, invocation_writes, return_writes}
-use Rattle.lc_outline.specs.Development.{Development, first_system, start_columns, start_numbers, riders_in, on_at}
+use Rattle.lc_outline.specs.Development.{Development, first_system, riders_in, on_at}
 use Rattle.lc_cond.specs.Conditions.{justified}
 use Rattle.lc_sound.specs.Instrumented.{Label, Runs, start_world, with_columns, IsOver, IsConcrete, unmarked}
 use Rattle.lc_sound.specs.Claims.{IsProven, IsGood, IsLifted, BareStepsLift, RunsAreSimulated, Headline}
@@ -100,7 +101,7 @@ module _ (D : Development) (X : IsProven D) (n : ℕ) (w b : World) (G : IsGood 
           let said = Y.replied D X n w G c p vs at e g.among g.from g.facts r.0 r.1 g.one r.2 in
           let goal : EachHolds r.1 (variable (assigned vs e.targets (numbers w.columns vs e.values))) (justified (first_system D) e.replies ∷ []) =
           subst (λ (nx : Option ℕ). EachHolds r.1 (variable (assigned vs e.targets (numbers w.columns vs e.values))) (elim nx as (λ x. List Rattle.lc_term.specs.Syntax.Formula) [ Some q ↦ [] | None ↦ justified (first_system D) e.replies ∷ [] ])) by.0 said in
-          let short : length e.replies ≤ 3 = (let m = (match_at D X.resolved (G.each_client c (In p vs) at).0.operation (G.each_client c (In p vs) at).1 (G.each_client c (In p vs) at).3).replies in let f = (arity_and_replies_few D X.resolved (G.each_client c (In p vs) at).0.operation).1 in let q = ret.count in omega arith) in
+          let short : length e.replies ≤ reply_limit = (let m = (match_at D X.resolved (G.each_client c (In p vs) at).0.operation (G.each_client c (In p vs) at).1 (G.each_client c (In p vs) at).3).replies in let f = (arity_and_replies_few D X.resolved (G.each_client c (In p vs) at).0.operation).1 in let q = ret.count in omega arith) in
           let just : IsJustified (first_system D) r.1 c (values_of r.1 (variable (assigned vs e.targets (numbers w.columns vs e.values))) e.replies) =
           justified_is (first_system D) r.1 (variable (assigned vs e.targets (numbers w.columns vs e.values))) c e.replies g.one short goal.0 in
           let same : values_of r.1 (variable (assigned vs e.targets (numbers w.columns vs e.values))) e.replies ≡ ns =

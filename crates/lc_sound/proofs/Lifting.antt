@@ -5,6 +5,7 @@ use Rattle.std.specs.List.{list_all}
 use Rattle.std.proofs.lemmas.Bool.Decides.{nat_tests}
 use Rattle.std.proofs.lemmas.Int.{ints}
 use Rattle.std.proofs.lemmas.Option.{slice_get_within}
+use Rattle.lc_lemmas.proofs.Booleans.{left_true, right_true}
 use Rattle.lc_term.specs.Updates.{Update, stored_all, writes_of, variable, assigned}
 use Rattle.lc_term.specs.Syntax.{Term, Variable, Formula, Base}
 use Rattle.lc_term.specs.Meaning.{State, Env, outside, value, EachHolds}
@@ -15,7 +16,6 @@ use Rattle.lc_machine.specs.World.{In, World}
 use Rattle.lc_machine.specs.Step.{IsClient, numbers}
 use Rattle.lc_machine.specs.EdgeSteps.{updated, IsIn}
 use Rattle.lc_term.specs.Lists.{concat_map, concat_places, Every}
-use Rattle.lc_term.proofs.Tests.{left_true, right_true}
 use Rattle.lc_term.specs.Said.{variables_from}
 use Rattle.lc_rider.specs.Rider.{Mark, RideAll}
 use Rattle.lc_outline.specs.Development.{invariant_of, Development, On, first_system, on_at, asserts_at, riders_in, in_body, in_operation}

@@ -1,7 +1,7 @@
 -- If what happens is lawful, the order of its marks linearizes its history.
 use Rattle.std.proofs.Common.{ℕ, List}
 use Rattle.lc_seq.specs.Sequential.{Sequential}
-use Rattle.lc_hist.specs.History.{Linearizes}
+use Rattle.lc_history.specs.History.{Linearizes}
 use Rattle.lc_sound.specs.Happening.{Happening, events, counted}
 use Rattle.lc_sound.specs.Lawful.{Free, IsLawful}
 use Rattle.lc_sound.proofs.Own.{IsOwn, lawful_is_own}

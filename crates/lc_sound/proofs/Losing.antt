@@ -1,18 +1,19 @@
 -- An object that loses an update is never proven.
-use Rattle.std.proofs.Common.{◌≡◌, ℕ, ◌+ℤ◌, ◌⊎◌, ne_eqb, ◌==◌, Bool, true, false, cond, List, [], ◌∷◌, ℤ, pos, Option, Some, None, refl, sym, ap, ◌∙◌, subst, inl, inr, arith, eqb-true}
+use Rattle.std.proofs.Common.{◌≡◌, ℕ, ◌+ℤ◌, ◌⊎◌, ne_eqb, ◌==◌, Bool, true, false, cond, List, [], ◌∷◌, ℤ, pos, Some, None, refl, sym, ap, ◌∙◌, subst, inl, inr, arith, eqb-true}
 use Rattle.std.specs.Prelude.{codes}
 use Rattle.std.proofs.lemmas.Bool.{eqb-false}
 use Rattle.std.proofs.lemmas.Int.{ints}
 use Rattle.std.proofs.lemmas.Option.{same_Some}
+use Rattle.lc_lemmas.proofs.Numbers.{equal_to_itself}
 use Rattle.lc_term.specs.Syntax.{Number, Variable, Add}
 use Rattle.lc_term.specs.Meaning.{State}
 use Rattle.lc_term.specs.State.{with_cell}
 use Rattle.lc_seq.specs.Sequential.{Call, Choice, Sequential, InOrder, ByName}
 use Rattle.lc_seq.specs.Specification.{Specification}
 use Rattle.lc_seq.specs.TextStep.{text_step, start_of}
-use Rattle.lc_hist.specs.History.{Event, Entry, IsLegal, AreCalls, entries_of, Linearizes, IsLinearizable}
+use Rattle.lc_history.specs.History.{Entry, IsLegal, AreCalls, entries_of, IsLinearizable}
 use Rattle.lc_object.specs.Syntax as O
-use Rattle.lc_object.specs.Syntax.{Load, Store, Cas, Return}
+use Rattle.lc_object.specs.Syntax.{Load, Store, Return}
 use Rattle.lc_object.specs.declared.instr.EdgeKind.TheVariants.{Next}
 use Rattle.lc_machine.specs.World.{World, Idle, In, initial_world}
 use Rattle.lc_machine.specs.Step.{Invoked, Moved, Returned, Steps, after, with_row}
@@ -20,7 +21,6 @@ use Rattle.lc_machine.specs.Runs.{IsBareRun}
 use Rattle.lc_cond.specs.Counter.{counter_specification, racy_object}
 use Rattle.lc_sound.specs.Instrumented.{bare_history}
 use Rattle.lc_sound.specs.Examples.{lost_labels, LostUpdateIsNeverProven}
-use Rattle.lc_term.proofs.Stores.{same_self}
 use Rattle.lc_sound.proofs.Lifted.{headline_is_proved}
 
 -- ---- the run
@@ -104,7 +104,7 @@ step = text_step counter_specification.operations
 
 -- an entry in front is its client's first
 in_front : (e : Entry) (es : List Entry) (c : ℕ) → e.client ≡ c → entries_of c (e ∷ es) ≡ (e.call, e.reply) ∷ entries_of c es
-in_front e es c is = ap (λ d. cond (d == c) ((e.call, e.reply) ∷ entries_of c es) (entries_of c es)) is ∙ ap (λ b. cond b ((e.call, e.reply) ∷ entries_of c es) (entries_of c es)) (same_self c)
+in_front e es c is = ap (λ d. cond (d == c) ((e.call, e.reply) ∷ entries_of c es) (entries_of c es)) is ∙ ap (λ b. cond b ((e.call, e.reply) ∷ entries_of c es) (entries_of c es)) (equal_to_itself c)
 
 -- an increment that replies 0 finds 0, and leaves 1
 incremented : (s t : State) (c : ℕ) (e : Entry) (es : List Entry) → step s e.client e.call e.choice ≡ Some (t, e.reply) → (e.call, e.reply) ∷ entries_of c es ≡ one → (s 0 (pos 0) ≡ pos 0) × (t 0 (pos 0) ≡ pos 1) × (entries_of c es ≡ [])
@@ -181,7 +181,7 @@ none_legal s (e ∷ es) legal ea eb others = by (whose 0 1 e es others)
     by (inl is) = goes_first 0 1 (λ x. omega arith) s e es is legal ea eb others
     by (inr is) = goes_first 1 0 (λ x. omega arith) s e es is legal eb ea (λ c p q. others c q p)
 
-returned_calls : (c : ℕ) (xs ys : List (Call × List ℤ)) → AreCalls c None (bare_history lost_labels) xs → Rattle.lc_hist.specs.History.pending_of c None (bare_history lost_labels) ≡ None → Rattle.lc_hist.specs.History.returned_of c None (bare_history lost_labels) ≡ ys → xs ≡ ys
+returned_calls : (c : ℕ) (xs ys : List (Call × List ℤ)) → AreCalls c None (bare_history lost_labels) xs → Rattle.lc_history.specs.History.pending_of c None (bare_history lost_labels) ≡ None → Rattle.lc_history.specs.History.returned_of c None (bare_history lost_labels) ≡ ys → xs ≡ ys
 returned_calls c xs ys (inl is) none r = is ∙ r
 returned_calls c xs ys (inr (call, reply, pending, is)) none r = absurd (cc (sym none ∙ pending))
 

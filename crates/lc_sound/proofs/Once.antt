@@ -86,7 +86,7 @@ module _ (operations : List Operation) (first : ℕ) where
 -- ---- a step
 
 -- the same client, with its instruction
-same_running : (object : Object) (w : World) (c p q : ℕ) (vs us : List ℤ) (i j : Instr) → IsRunning object w c p vs i → IsRunning object w c q us j → (p ≡ q) × (vs ≡ us) × (i ≡ j)
+pub same_running : (object : Object) (w : World) (c p q : ℕ) (vs us : List ℤ) (i j : Instr) → IsRunning object w c p vs i → IsRunning object w c q us j → (p ≡ q) × (vs ≡ us) × (i ≡ j)
 same_running object w c p q vs us i j r t =
     let client : In p vs ≡ In q us = same_Some (In p vs) (In q us) (sym r.client ∙ t.client) in
     let point : p ≡ q = cc client in
@@ -94,7 +94,7 @@ same_running object w c p q vs us i j r t =
     (point, cc client, sym r.code.2 ∙ (ap (λ (x : Point). x.instruction) same ∙ t.code.2))
 
 -- what the two did, if they run the same instruction
-same_done : (object : Object) (w : World) (c p q : ℕ) (vs us : List ℤ) (i j : Instr) (k l : EdgeKind) (a b : State) (x y : Outcome) → IsRunning object w c p vs i → IsRunning object w c q us j →
+pub same_done : (object : Object) (w : World) (c p q : ℕ) (vs us : List ℤ) (i j : Instr) (k l : EdgeKind) (a b : State) (x y : Outcome) → IsRunning object w c p vs i → IsRunning object w c q us j →
     Does object w.columns vs i k a x → Does object w.columns us j l b y → (k ≡ l) × (a ≡ b) × (x ≡ y)
 same_done object w c p q vs us i j k l a b x y r t d f =
     let same = same_running object w c p q vs us i j r t in

@@ -8,7 +8,7 @@ use Rattle.lc_term.specs.State.{column_at, initial_columns, initial_state}
 use Rattle.lc_seq.specs.TextStep.{text_step, start_of}
 use Rattle.lc_seq.specs.Specification as Q
 use Rattle.lc_object.specs.Syntax as O
-use Rattle.lc_hist.specs.History.{Linearizes}
+use Rattle.lc_history.specs.History.{Linearizes}
 use Rattle.lc_machine.specs.World.{Idle}
 use Rattle.lc_outline.specs.Development.{Development, first_system, start_columns, start_numbers}
 use Rattle.lc_sound.specs.Instrumented.{start_world}

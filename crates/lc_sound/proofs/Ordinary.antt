@@ -6,11 +6,12 @@ use Rattle.std.proofs.lemmas.Bool.{eqb-false}
 use Rattle.std.proofs.lemmas.Bool.Decides.{Decides-int_eq}
 use Rattle.std.proofs.lemmas.Int.{ints}
 use Rattle.std.proofs.lemmas.Option.{same_Some, slice_get_within}
+use Rattle.lc_lemmas.proofs.Numbers.{equal_other_way}
 use Rattle.lc_term.specs.Meaning.{State}
 use Rattle.lc_term.specs.SystemColumns.{pend}
 use Rattle.lc_term.specs.Updates.{Write, stored_all, variable}
 use Rattle.lc_term.proofs.Stores.{writes_away}
-use Rattle.lc_hist.proofs.Tables.{slice_get-set, slice_get-set_other}
+use Rattle.lc_history.proofs.Tables.{slice_get-set, slice_get-set_other}
 use Rattle.lc_object.specs.Edges.{Edge}
 use Rattle.lc_object.specs.Places.{operation_at}
 use Rattle.lc_object.specs.Syntax.{Point}
@@ -32,7 +33,6 @@ use Rattle.lc_sound.proofs.Frames.{Kept, Kept_rides}
 use Rattle.lc_sound.proofs.Gone.{edge_here}
 use Rattle.lc_sound.proofs.Lifting.{edge_targets, assigned_other}
 use Rattle.lc_sound.proofs.Ordered.{system_start}
-use Rattle.lc_sound.proofs.Own.{same_client}
 use Rattle.lc_sound.proofs.Rideable.{at_other}
 use Rattle.lc_sound.proofs.RowChanges.{AreAt, invocation_at}
 use Rattle.lc_sound.proofs.Simulated.{goes_where_reached}
@@ -70,7 +70,7 @@ module _ (D : Development) (R : IsResolved D) where
 
       by : (b : Bool) → (d == c) ≡ b → variable us 1 ≡ pos d
       by true e =
-          let same : d ≡ c = same_client c d e in
+          let same : d ≡ c = equal_other_way c d e in
           let set = slice_get-set w.clients c x (slice_get_within w.clients c old at) in
           own p us (same_Some x (In p us) (sym set ∙ (ap (slice_get (slice_set w.clients c x)) (sym same) ∙ here))) ∙ ap pos (sym same)
       by false e = O.own d p us (sym (slice_get-set_other w.clients c d x (eqb-false d c e)) ∙ here)

@@ -3,6 +3,7 @@ use Rattle.std.proofs.Common.{◌≡◌, ℕ, zero, suc, ◌+◌, ◌<◌, ◌�
 use Rattle.std.specs.Prelude.{slice_get}
 use Rattle.std.proofs.lemmas.Bool.Decides.{nat_tests}
 use Rattle.std.proofs.lemmas.Int.{ints}
+use Rattle.std.proofs.lemmas.Bool.{and_from}
 use Rattle.lc_term.specs.Updates.{variable}
 use Rattle.lc_term.specs.Syntax.{Term, Number, Variable, Formula}
 use Rattle.lc_term.specs.Meaning.{State, Env, EachHolds}
@@ -12,7 +13,6 @@ use Rattle.lc_object.specs.WellFormed.{variable_count}
 use Rattle.lc_machine.specs.World.{Client, Idle, In}
 use Rattle.lc_machine.specs.EdgeSteps.{IsIn}
 use Rattle.lc_term.specs.Lists.{Every, concat_map, numbered, concat_places}
-use Rattle.lc_term.proofs.Tests.{both_true}
 use Rattle.lc_term.specs.SystemColumns.{op_column, arg_columns}
 use Rattle.lc_action.specs.Action.{Action, Acts}
 use Rattle.lc_outline.specs.Development.{invariant_of, all_actions, Development, first_system, asserts_at, in_operation}
@@ -63,7 +63,7 @@ frame_kept first o n r s m a b f p q same h =
 -- ---- frames have few variables
 
 cell_below : (n c : ℕ) (t : Term) → nat_lt 1 n ≡ true → term_passes (variables_below n) t ≡ true → IsBelow n (is_cell c t)
-cell_below n c t h k = both_true (nat_lt 1 n) (term_passes (variables_below n) t) h k
+cell_below n c t h k = and_from (nat_lt 1 n) (term_passes (variables_below n) t) h k
 
 hold_below : (n : ℕ) (cs : List ℕ) (k j : ℕ) → nat_lt 1 n ≡ true → k + j ≤ n → Every (IsBelow n) (hold_variables cs k j)
 hold_below n [] k j h le = tt
@@ -73,7 +73,7 @@ hold_below n (c ∷ cs) k (suc j) h le = (let lt : k < n = omega arith in cell_b
 pub frame_below : (first o j n : ℕ) → 2 + j ≤ n → Every (IsBelow n) (body_frame first o j)
 frame_below first o j n le =
     let h : nat_lt 1 n ≡ true = grind (arith, nat_tests) in
-    (h, (both_true (nat_lt 1 n) true h refl, (cell_below n (op_column first) (Number (pos o)) h refl, hold_below n (arg_columns first) 2 j h (omega arith))))
+    (h, (and_from (nat_lt 1 n) true h refl, (cell_below n (op_column first) (Number (pos o)) h refl, hold_below n (arg_columns first) 2 j h (omega arith))))
 
 -- ---- the stable conditions of one action
 

@@ -1,6 +1,6 @@
 -- What is lawful is so of each client.
-use Rattle.std.proofs.Common.{◌≡◌, ℕ, Bool, true, false, ◌==◌, ◌⊎◌, List, [], ◌∷◌, refl, sym, subst, inl, inr}
-use Rattle.std.proofs.lemmas.Bool.Decides.{eqb_tells}
+use Rattle.std.proofs.Common.{◌≡◌, ℕ, Bool, true, false, ◌==◌, ◌⊎◌, List, [], ◌∷◌, refl, subst, inl, inr}
+use Rattle.lc_lemmas.proofs.Numbers.{equal_other_way, flipped_test}
 use Rattle.lc_seq.specs.Sequential.{Sequential}
 use Rattle.lc_sound.specs.Happening.{Happening, client_of, put}
 use Rattle.lc_sound.specs.Lawful.{Phase, Takes, IsLawful}
@@ -10,36 +10,25 @@ abbrev pub IsOwn : ℕ → Phase → List Happening → Type 0
 IsOwn c p [] = Unit {0}
 IsOwn c p (h ∷ hs) = (q : Phase) × (((client_of h == c) ≡ true) × Takes p h q ⊎ ((client_of h == c) ≡ false) × (q ≡ p)) × IsOwn c q hs
 
-pub same_client : (c d : ℕ) → (d == c) ≡ true → d ≡ c
-same_client c d e = elim (eqb_tells d c) [ inl h ↦ h.1 | inr h ↦ absurd (cc (h.0, e)) ]
-
 pub put_here : {A : Type 0} (f : ℕ → A) (c : ℕ) (v : A) (d : ℕ) → (d == c) ≡ true → put f c v d ≡ v
 put_here f c v d e = rw e
 
 pub put_away : {A : Type 0} (f : ℕ → A) (c : ℕ) (v : A) (d : ℕ) → (d == c) ≡ false → put f c v d ≡ f d
 put_away f c v d e = rw e
 
-pub flip_test : (c d : ℕ) (b : Bool) → (c == d) ≡ b → (d == c) ≡ b
-flip_test c d true e = elim (eqb_tells d c) [ inl h ↦ h.0 | inr h ↦ absurd (h.1 (sym (same_client d c e))) ]
-flip_test c d false e =
-    elim (eqb_tells d c) [
-      | inl h ↦ elim (eqb_tells c d) [ inl k ↦ absurd (cc (k.0, e)) | inr k ↦ absurd (k.1 (sym h.1)) ]
-      | inr h ↦ h.0
-    ]
-
 own_step : {A : Type 0} (step : Sequential A) (h : Happening) (hs : List Happening) (s : A) (phases : ℕ → Phase) (c : ℕ)
     → (law : IsLawful step s phases (h ∷ hs)) → IsOwn c (put phases (client_of h) law.0 c) hs
     → (b : Bool) → (client_of h == c) ≡ b → IsOwn c (phases c) (h ∷ hs)
 own_step step h hs s phases c law rest true e =
-    let same : client_of h ≡ c = same_client c (client_of h) e in (
+    let same : client_of h ≡ c = equal_other_way c (client_of h) e in (
       law.0,
       inl (e, subst (λ d. Takes (phases d) h law.0) same law.2),
-      subst (λ p. IsOwn c p hs) (put_here phases (client_of h) law.0 c (flip_test (client_of h) c true e)) rest,
+      subst (λ p. IsOwn c p hs) (put_here phases (client_of h) law.0 c (flipped_test (client_of h) c true e)) rest,
     )
 own_step step h hs s phases c law rest false e = (
   phases c,
   inr (e, refl),
-  subst (λ p. IsOwn c p hs) (put_away phases (client_of h) law.0 c (flip_test (client_of h) c false e)) rest,
+  subst (λ p. IsOwn c p hs) (put_away phases (client_of h) law.0 c (flipped_test (client_of h) c false e)) rest,
 )
 
 pub lawful_is_own : {A : Type 0} (step : Sequential A) (hs : List Happening) (s : A) (phases : ℕ → Phase) (c : ℕ) → IsLawful step s phases hs → IsOwn c (phases c) hs

@@ -9,14 +9,14 @@ use Rattle.lc_term.specs.Meaning.{State, Env, outside, value, Holds, NoneHolds, 
 use Rattle.lc_term.specs.Truth.{truth}
 use Rattle.lc_term.proofs.Truth.{Decides-truth}
 use Rattle.lc_seq.specs.Sequential.{Chosen, Choice, given_in}
-use Rattle.lc_seq.specs.Specification.{Branch, Operation, chosen}
+use Rattle.lc_seq.specs.Specification.{Branch, Operation}
 use Rattle.lc_seq.proofs.Choosing.{chosen-map}
-use Rattle.lc_seq.specs.TextStep.{run, call_env}
+use Rattle.lc_seq.specs.TextStep.{run}
 use Rattle.lc_term.specs.Lists.{Every}
 use Rattle.lc_seq.specs.Branches.{op_branches, arity, op_replies}
 use Rattle.lc_term.specs.Said.{told, said, at_client}
 use Rattle.lc_term.specs.SystemColumns.{pend, op_column, rep_columns}
-use Rattle.lc_rider.specs.Rider.{Mark, Marking, Own, Other, Note, Deed, Assign, Marks, Rider, arguments_in, IsDone, IsDoneWhere, RideAll, mark_writes, note_writes}
+use Rattle.lc_rider.specs.Rider.{Mark, Marking, Own, Other, Note, Deed, Assign, Marks, Rider, IsDone, IsDoneWhere, RideAll, mark_writes, note_writes}
 use Rattle.lc_outline.specs.Development.{Development, first_system}
 use Rattle.lc_rider.specs.Paths.{Path, Duty, with_fact, mark_updates, marked_op, observing_duty, named_duty, mark_duties, branch_paths, deed_paths, deed_paths_where, rider_paths, paths, is_empty}
 use Rattle.lc_term.specs.Syntax.{Number}
@@ -24,7 +24,7 @@ use Rattle.lc_outline.specs.Resolved.{IsNonempty, IsResolved, IsRiderResolved, I
 use Rattle.lc_term.proofs.Stores.{Every_left, Every_right, if_true, if_false, stored-append, writes_other, writes_away}
 use Rattle.lc_seq.proofs.Abstract.{run_is}
 use Rattle.lc_outline.proofs.Matched.{op_branches_ground, branches_resolved, replies_resolved}
-use Rattle.lc_sound.proofs.RowChanges.{AreAt, AreFirst, mark_at, note_at}
+use Rattle.lc_sound.proofs.RowChanges.{AreAt, AreFirst, mark_at, note_at, not_first}
 use Rattle.lc_term.proofs.Symbolic.{values_by, columns_by-put, columns_by-after, write-said, value-said, Holds-told}
 use Rattle.lc_rider.proofs.Riding.{Every-concat, v, st, Facts, terms, marked_variables, choice, branches, branches_ground, marked_env, marked_env_is, one_more, client, with_duties, settled_writes, noted_writes}
 use Rattle.lc_rider.specs.PathLaws.{AreGround}
@@ -37,10 +37,6 @@ pub at_other : (x : ℕ) (i : ℤ) (ws : List Write) → (pos x ≡ i → ⊥) �
 at_other x i [] ne h = tt
 at_other x i (w ∷ ws) ne h = ((λ e. ne (sym h.0 ∙ e)), at_other x i ws ne h.1)
 
-in_front : (n k : ℕ) (ws : List Write) → n ≤ k → AreFirst n ws → Every (λ (w : Write). w.column ≡ k → ⊥) ws
-in_front n k [] le h = tt
-in_front n k (w ∷ ws) le h = ((λ e. let lt = h.0 in omega arith), in_front n k ws le h.1)
-
 pub only_after : (column n few x : ℕ) (m : State) (ws sys : List Write) → few ≤ column → Only column n m → m column (pos x) ≡ pos 1 → AreFirst few ws → AreAt x sys → Only column n (stored_all m (ws ++ sys))
 only_after column n few x m ws sys le only one fi at i = by (int_eq (pos x) i) refl
   where
@@ -51,7 +47,7 @@ only_after column n few x m ws sys le only one fi at i = by (int_eq (pos x) i) r
     by false e =
         let ne : pos x ≡ i → ⊥ = λ same. true≢false (sym ((Decides-int_eq (pos x) i).1 same) ∙ e) in
         let kept : stored_all m (ws ++ sys) column i ≡ m column i =
-        (λ k. stored-append m ws sys k column i) ∙ (writes_away (stored_all m ws) sys column i (at_other x i sys ne at) ∙ (λ k. writes_other m ws column (in_front few column ws le fi) k i)) in
+        (λ k. stored-append m ws sys k column i) ∙ (writes_away (stored_all m ws) sys column i (at_other x i sys ne at) ∙ (λ k. writes_other m ws column (not_first few column ws le fi) k i)) in
         subst (λ z. (z ≡ pos 0) ⊎ ((c : ℕ) × (c < n) × (i ≡ pos c))) (sym kept) (only i)
 
 module _ (D : Development) (R : IsResolved D) (s : State) (e : Env) (τ : List Term) (n : ℕ) where

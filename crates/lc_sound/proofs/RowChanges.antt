@@ -1,6 +1,7 @@
 -- What an invocation, a mark, a note and a return make of the rows.
 use Rattle.std.proofs.Common.{◌≡◌, ℕ, suc, ◌+◌, ◌<◌, ◌≤◌, List, [], ◌∷◌, ◌++◌, ℤ, pos, length, take, refl, sym, ap, ◌∙◌, arith}
 use Rattle.std.proofs.lemmas.Int.{ints}
+use Rattle.lc_base.specs.Limits.{argument_limit, reply_limit}
 use Rattle.lc_term.specs.Updates.{Write, stored_all, row, cell_writes}
 use Rattle.lc_term.specs.Meaning.{State}
 use Rattle.lc_seq.specs.Sequential.{Call}
@@ -32,7 +33,7 @@ not_there c d (w ∷ ws) ne h = ((λ e. ne (omega (arith, ints, h.0, e))), not_t
 pub rows_away : (first : ℕ) (s : State) (c d : ℕ) (ws : List Write) → (d ≡ c → ⊥) → AreAt c ws → row_of first (stored_all s ws) d ≡ row_of first s d
 rows_away first s c d ws ne h = row_same first (stored_all s ws) s d (λ k le. writes_away s ws k (pos d) (not_there c d ws ne h))
 
-not_first : (n k : ℕ) (ws : List Write) → n ≤ k → AreFirst n ws → Every (λ (w : Write). w.column ≡ k → ⊥) ws
+pub not_first : (n k : ℕ) (ws : List Write) → n ≤ k → AreFirst n ws → Every (λ (w : Write). w.column ≡ k → ⊥) ws
 not_first n k [] le h = tt
 not_first n k (w ∷ ws) le h = ((λ e. let lt = h.0 in omega arith), not_first n k ws le h.1)
 
@@ -86,7 +87,7 @@ module _ (operations : List Operation) (first : ℕ) (s : State) (c : ℕ) where
   three_apart : (k : ℕ) → Distinct ((k + first) ∷ (suc k + first) ∷ (suc (suc k) + first) ∷ [])
   three_apart k = (((λ e. omega arith), ((λ e. omega arith), tt)), (((λ e. omega arith), tt), (tt, tt)))
 
-  pub invoked_row : (o : ℕ) (numbers : List ℤ) → length numbers ≡ arity operations o → arity operations o ≤ 3 →
+  pub invoked_row : (o : ℕ) (numbers : List ℤ) → length numbers ≡ arity operations o → arity operations o ≤ argument_limit →
       Matches operations (Waiting (record { op = o; numbers = numbers })) (row_of first (stored_all s (invocation_writes first c o numbers)) c)
   invoked_row o numbers whole le =
       let six = read_back s (pend first ∷ op_column first ∷ arg_columns first ++ noted first ∷ []) (pos c) (pos 1 ∷ pos o ∷ argument numbers 0 ∷ argument numbers 1 ∷ argument numbers 2 ∷ pos 0 ∷ []) six_apart (omega arith) in
@@ -105,7 +106,7 @@ module _ (operations : List Operation) (first : ℕ) (s : State) (c : ℕ) where
       )
 
   -- replies, then `pend`
-  pub marked_row : (call : Call) (reply : List ℤ) → length reply ≡ op_replies operations call.op → op_replies operations call.op ≤ 3 →
+  pub marked_row : (call : Call) (reply : List ℤ) → length reply ≡ op_replies operations call.op → op_replies operations call.op ≤ reply_limit →
       Matches operations (Done call reply) (row_of first (stored_all s (mark_writes first c reply)) c)
   marked_row call reply whole le =
       let a : State = stored_all s (cell_writes (rep_columns first) (pos c) reply) in
@@ -118,7 +119,7 @@ module _ (operations : List Operation) (first : ℕ) (s : State) (c : ℕ) where
         record { cells_are = ap (take (length reply)) cells ∙ read_back s (rep_columns first) (pos c) reply (three_apart 5) (omega arith); whole = whole },
       )
 
-  pub noted_row : (call : Call) (reply : List ℤ) → s (pend first) (pos c) ≡ pos 1 → IsOfCall operations call (row_of first s c) → length reply ≡ op_replies operations call.op → op_replies operations call.op ≤ 3 →
+  pub noted_row : (call : Call) (reply : List ℤ) → s (pend first) (pos c) ≡ pos 1 → IsOfCall operations call (row_of first s c) → length reply ≡ op_replies operations call.op → op_replies operations call.op ≤ reply_limit →
       Matches operations (Noted call reply) (row_of first (stored_all s (note_writes first c reply)) c)
   noted_row call reply one of whole le =
       let t : State = stored_all s (note_writes first c reply) in

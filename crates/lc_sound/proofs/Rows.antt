@@ -4,7 +4,7 @@ use Rattle.lc_term.specs.Updates.{row}
 use Rattle.lc_term.specs.Meaning.{State}
 use Rattle.lc_seq.specs.Sequential.{Call}
 use Rattle.lc_seq.specs.Specification.{Operation}
-use Rattle.lc_hist.specs.History.{Replied, Entry}
+use Rattle.lc_history.specs.History.{Replied, Entry}
 use Rattle.lc_seq.specs.Branches.{arity, op_replies}
 use Rattle.lc_term.specs.SystemColumns.{pend, op_column, arg_columns, rep_columns, noted, note_columns}
 use Rattle.lc_rider.specs.Rider.{IsJustified}

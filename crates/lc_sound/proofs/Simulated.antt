@@ -4,7 +4,7 @@ use Rattle.std.specs.Prelude.{slice_get, slice_set}
 use Rattle.std.proofs.lemmas.Option.{same_Some, slice_get_within}
 use Rattle.lc_term.specs.Updates.{stored_all, variable, assigned}
 use Rattle.lc_term.specs.Meaning.{State}
-use Rattle.lc_hist.proofs.Tables.{slice_get-set}
+use Rattle.lc_history.proofs.Tables.{slice_get-set}
 use Rattle.lc_object.specs.Syntax.{Instr, Point}
 use Rattle.lc_object.specs.Edges.{Edge}
 use Rattle.lc_object.specs.declared.instr.EdgeKind.{EdgeKind}

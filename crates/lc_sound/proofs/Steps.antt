@@ -3,11 +3,12 @@ use Rattle.std.proofs.Common.{◌≡◌, ℕ, Bool, true, false, ◌==◌, cond,
 use Rattle.std.specs.Prelude.{slice_get, slice_set}
 use Rattle.std.proofs.lemmas.Option.{same_Some, slice_get_within}
 use Rattle.std.proofs.lemmas.Bool.{eqb-false}
+use Rattle.lc_lemmas.proofs.Numbers.{equal_other_way, equal_to_itself}
 use Rattle.lc_term.specs.Updates.{stored_all, variable}
 use Rattle.lc_term.specs.Meaning.{State}
 use Rattle.lc_seq.specs.Sequential.{Call}
-use Rattle.lc_hist.specs.History.{Called, Replied}
-use Rattle.lc_hist.proofs.Tables.{slice_get-set, slice_get-set_other}
+use Rattle.lc_history.specs.History.{Called, Replied}
+use Rattle.lc_history.proofs.Tables.{slice_get-set, slice_get-set_other}
 use Rattle.lc_object.specs.Syntax.{Point, Object}
 use Rattle.lc_object.specs.declared.instr.EdgeKind.{EdgeKind}
 use Rattle.lc_object.specs.declared.instr.EdgeKind.TheVariants.{Next}
@@ -22,7 +23,6 @@ use Rattle.lc_outline.specs.Resolved.{IsResolved}
 use Rattle.lc_sound.specs.Happening.{Happening, Happens, put, events}
 use Rattle.lc_sound.specs.Order.{called_last, marked, happenings}
 use Rattle.lc_sound.specs.Lawful.{Phase, Free, Waiting, Takes, calls, IsLawful}
-use Rattle.lc_sound.proofs.Own.{same_client}
 use Rattle.lc_sound.proofs.Kept.{call_in}
 use Rattle.lc_seq.proofs.Abstract.{same-abstract}
 use Rattle.lc_machine.proofs.Bodies.{point_is_placed, goes_to, answers_count, answers_next, entry_is}
@@ -37,7 +37,7 @@ stand_set object clients phases after c x y at stand same here d = go (d == c) r
   where
     go : (b : Bool) → (d == c) ≡ b → Stands object (slice_get (slice_set clients c y) d) (call_in (after d))
     go true e =
-        subst (λ k. Stands object (slice_get (slice_set clients c y) k) (call_in (after k))) (sym (same_client c d e))
+        subst (λ k. Stands object (slice_get (slice_set clients c y) k) (call_in (after k))) (sym (equal_other_way c d e))
         (subst (λ z. Stands object z (call_in (after c))) (sym (slice_get-set clients c y (slice_get_within clients c x at))) here)
     go false e =
         subst (λ z. Stands object z (call_in (after d))) (sym (slice_get-set_other clients c d y (eqb-false d c e)))
@@ -47,11 +47,11 @@ put_other : (phases : ℕ → Phase) (c : ℕ) (q : Phase) (d : ℕ) → (d ≡ 
 put_other phases c q d ne = go (d == c) refl
   where
     go : (b : Bool) → (d == c) ≡ b → call_in (cond b q (phases d)) ≡ call_in (phases d)
-    go true e = absurd (ne (same_client c d e))
+    go true e = absurd (ne (equal_other_way c d e))
     go false e = refl
 
 put_self : (phases : ℕ → Phase) (c : ℕ) (q : Phase) → put phases c q c ≡ q
-put_self phases c q = ap (λ b. cond b q (phases c)) (Rattle.lc_term.proofs.Stores.same_self c)
+put_self phases c q = ap (λ b. cond b q (phases c)) (equal_to_itself c)
 
 module _ (D : Development) (R : IsResolved D) where
   -- what a whole step leads to

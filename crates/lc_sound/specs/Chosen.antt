@@ -3,7 +3,7 @@ use Rattle.std.specs.Prelude.{ℕ, List, [], ◌∷◌, ◌++◌, pos, negsuc, N
 use Rattle.lc_term.specs.Syntax.{Term, Number, Variable, Read, Base, Formula, Le, Eq, And, formulas}
 use Rattle.lc_seq.specs.Sequential.{Choice, Chosen, InOrder, ByName}
 use Rattle.lc_seq.specs.Specification.{Specification}
-use Rattle.lc_hist.specs.History.{Entry}
+use Rattle.lc_history.specs.History.{Entry}
 use Rattle.lc_object.specs.Syntax.{Load, Faa, Return}
 use Rattle.lc_object.specs.declared.instr.EdgeKind.TheVariants.{Next}
 use Rattle.lc_rider.specs.Rider.{Own, Note, Marks, Marking}

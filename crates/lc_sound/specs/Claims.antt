@@ -9,7 +9,7 @@ use Rattle.lc_object.specs.declared.instr.EdgeKind.TheVariants.{Next}
 use Rattle.lc_machine.specs.World.{Client, Idle, In, World, initial_world}
 use Rattle.lc_machine.specs.Step.{Event, Invoked, Moved, Returned, IsClient, Steps}
 use Rattle.lc_seq.specs.TextStep.{text_step, start_of}
-use Rattle.lc_hist.specs.History.{Linearizes}
+use Rattle.lc_history.specs.History.{Linearizes}
 use Rattle.lc_term.specs.SystemColumns.{pend}
 use Rattle.lc_rider.specs.Rider.{Mark, argument}
 use Rattle.lc_action.specs.Action.{Action, skip, enter, leave, Acts}

@@ -2,7 +2,7 @@
 use Rattle.std.specs.Prelude.{◌≡◌, List, [], ◌∷◌, pos, false}
 use Rattle.lc_term.specs.Syntax.{Number}
 use Rattle.lc_seq.specs.Sequential.{InOrder}
-use Rattle.lc_hist.specs.History.{Event, Called, Replied}
+use Rattle.lc_history.specs.History.{Event, Called, Replied}
 use Rattle.lc_object.specs.declared.instr.EdgeKind.TheVariants.{Next, Then, Else}
 use Rattle.lc_machine.specs.World.{World}
 use Rattle.lc_machine.specs.Step.{Invoked, Moved, Returned}

@@ -3,7 +3,7 @@ use Rattle.std.specs.Prelude.{◌≡◌, [], ◌∷◌, pos, negsuc, length}
 use Rattle.lc_term.specs.Syntax.{Number, Variable, Or, And, formulas}
 use Rattle.lc_seq.specs.Sequential.{InOrder, ByName}
 use Rattle.lc_seq.specs.TextStep.{text_step, start_of}
-use Rattle.lc_hist.specs.History.{IsLegal}
+use Rattle.lc_history.specs.History.{IsLegal}
 use Rattle.lc_cond.specs.Conditions.{conditions}
 use Rattle.lc_sound.specs.Chosen.{adding, coin, heads, pick, flipped, noting, observing_goals}
 

@@ -1,6 +1,6 @@
 -- What happens in a run, in time: invocations, returns and marks; and which marks make the order.
 use Rattle.std.specs.Prelude.{ℕ, Bool, true, false, ◌==◌, cond, List, [], ◌∷◌}
-use Rattle.lc_hist.specs.History.{Event, Called, Replied, Entry}
+use Rattle.lc_history.specs.History.{Event, Called, Replied, Entry}
 
 -- an invocation or a return happens, or a call is marked, by a note or otherwise
 pub data Happening : Type 0 where

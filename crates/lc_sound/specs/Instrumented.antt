@@ -3,7 +3,7 @@
 use Rattle.std.specs.Prelude.{◌≡◌, ℕ, ◌+◌, ◌<◌, ◌≤◌, List, [], ◌∷◌, ℤ, map, length, replicate}
 use Rattle.lc_term.specs.Updates.{stored_all, variable}
 use Rattle.lc_term.specs.Meaning.{State}
-use Rattle.lc_hist.specs.History as H
+use Rattle.lc_history.specs.History as H
 use Rattle.lc_object.specs.declared.instr.EdgeKind.TheVariants.{Next}
 use Rattle.lc_machine.specs.Runs.{BareLabel}
 use Rattle.lc_machine.specs.World.{World, Idle, In}

@@ -1,7 +1,7 @@
 -- What each client is in, along what happens.
 use Rattle.std.specs.Prelude.{◌≡◌, ℕ, true, false, List, [], ◌∷◌, ℤ}
 use Rattle.lc_seq.specs.Sequential.{Call, Sequential, Step}
-use Rattle.lc_hist.specs.History.{Called, Replied, Entry}
+use Rattle.lc_history.specs.History.{Called, Replied, Entry}
 use Rattle.lc_sound.specs.Happening.{Happening, Happens, Marked, client_of, put}
 
 -- what a client is in: no call, a call without a mark, one with a note, one with a mark

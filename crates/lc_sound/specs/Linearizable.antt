@@ -1,7 +1,7 @@
 -- The histories of an object, and when it is linearizable.
 use Rattle.std.specs.Prelude.{ℕ, List, [], ◌∷◌, ◌++◌}
-use Rattle.lc_hist.specs.History as H
-use Rattle.lc_hist.specs.History.{Called, Replied, IsLinearizable}
+use Rattle.lc_history.specs.History as H
+use Rattle.lc_history.specs.History.{Called, Replied, IsLinearizable}
 use Rattle.lc_machine.specs.Runs.{BareLabel, IsBareRun}
 use Rattle.lc_machine.specs.Step.{Event, Invoked, Moved, Returned}
 use Rattle.lc_object.specs.Syntax.{Object}

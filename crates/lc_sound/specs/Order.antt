@@ -1,7 +1,7 @@
 -- The order of a run: its marks, in time.
 use Rattle.std.specs.Prelude.{ℕ, List, [], ◌∷◌, ◌++◌, map}
 use Rattle.lc_seq.specs.Sequential.{Call}
-use Rattle.lc_hist.specs.History.{Entry}
+use Rattle.lc_history.specs.History.{Entry}
 use Rattle.lc_machine.specs.Step.{Event, Invoked, Moved, Returned}
 use Rattle.lc_rider.specs.Rider.{Mark}
 use Rattle.lc_sound.specs.Happening.{Happening, Happens, Marked, counted, put}

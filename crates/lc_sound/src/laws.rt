@@ -1,6 +1,6 @@
 //! Laws of the definitions: functions without effect, whose contracts are the laws.
 ghost use Rattle.std.specs.Prelude.{List};
-ghost use Rattle.lc_hist.specs.History.{Linearizes};
+ghost use Rattle.lc_history.specs.History.{Linearizes};
 ghost use Rattle.lc_sound.specs.Claims.{OutlinesHold, BareStepsLift, StepsAreActions, RunsAreSimulated, OrdersLinearize, RunsStandOver, RunsExtend, StepsAreDetermined, Headline};
 ghost use Rattle.lc_sound.specs.EdgePaths.{EdgePathsExclude, StepsArePaths, RunsAreOrdinary};
 ghost use Rattle.lc_sound.specs.Happening.{Happening, events, counted};

@@ -2,7 +2,7 @@
 use Rattle.std.proofs.Common.{◌≡◌, inl, inr, ℕ, ◌+◌, Bool, true, false, ◌||◌, cond, List, [], ◌∷◌, ◌++◌, length, refl, sym, ◌∙◌, subst}
 use Rattle.std.specs.Prelude.{bytes_eq, None}
 use Rattle.std.specs.List.{list_any}
-use Rattle.std.proofs.lemmas.Bool.{or_parts}
+use Rattle.std.proofs.lemmas.Bool.{or_parts, false_from_ne_true, or_from}
 use Rattle.std.proofs.lemmas.Slice.Eq.{bytes_eq-Decides}
 use Rattle.lc_base.specs.NameText.{is_name}
 use Rattle.lc_sexp.specs.Trees.{Tree, Trees, atom, list, none, ◌▸◌, item_count}
@@ -64,14 +64,6 @@ at_end : {A : Type 0} (x : A) (xs : List A) → IsIn x (xs ++ x ∷ [])
 at_end x [] = inl refl
 at_end x (y ∷ xs) = inr (at_end x xs)
 
-is_false : (b : Bool) → (b ≡ true → ⊥) → b ≡ false
-is_false true h = absurd (h refl)
-is_false false h = refl
-
-both_false : (a b : Bool) → a ≡ false → b ≡ false → (a || b) ≡ false
-both_false true b e f = absurd (cc)
-both_false false b e f = f
-
 -- things with names
 module _ {X : Type 0} (name : X → List ℕ) where
   -- each name is none of these, and none of those before it
@@ -87,7 +79,7 @@ module _ {X : Type 0} (name : X → List ℕ) where
   none_named : (v : List ℕ) (before : List (List ℕ)) (xs : List X) → IsIn v before → AreNew before xs → list_any (λ y. is v (name y)) xs ≡ false
   none_named v before [] at new = refl
   none_named v before (x ∷ xs) at new =
-      both_false (is v (name x)) (list_any (λ y. is v (name y)) xs) (is_false (is v (name x)) (among v (name x) before at new.0))
+      or_from (is v (name x)) (list_any (λ y. is v (name y)) xs) (false_from_ne_true (is v (name x)) (among v (name x) before at new.0))
       (none_named v (before ++ name x ∷ []) xs (in_front v before (name x ∷ []) at) new.1)
 
   pub apart : (before : List (List ℕ)) (xs : List X) → AreNew before xs → AreApart xs

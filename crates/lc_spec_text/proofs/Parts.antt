@@ -1,18 +1,11 @@
 -- Parts of an operation and of a specification, as cursors find them.
-use Rattle.std.proofs.Common.{◌≡◌, ℕ, ◌+◌, List, [], ◌++◌, Option, None, true, false, Ok, Err, refl, sym, ap, ◌∙◌, subst}
-use Rattle.std.specs.Prelude.{Result, codes}
-use Rattle.std.specs.Result.{IsErrAnd}
-use Rattle.lc_sexp.specs.Trees.{Tree, Trees, atom, list, none, ◌▸◌, item_count}
+use Rattle.std.proofs.Common.{◌≡◌, ℕ, ◌+◌, List, [], ◌++◌, Option, None, Ok, refl, sym, ap, ◌∙◌}
+use Rattle.lc_sexp.specs.Trees.{Tree, Trees, ◌▸◌, item_count}
 use Rattle.lc_sexp.specs.Shown.{rest_of, number_of, owner_of}
 use Rattle.lc_sexp.specs.declared.cursor.Cursor.{Cursor}
-use Rattle.lc_sexp.specs.declared.misfit.Misfit.{Misfit}
-use Rattle.lc_reading.specs.Flaws.{misfit_flaw}
 use Rattle.lc_reading.specs.Naming.{name_reading}
-use Rattle.lc_reading.specs.Parts.{IsNext, IsThree, IsBehindWord, begins, tree_of, place_of}
-use Rattle.lc_reading.specs.Readings.{Reading, flawed, both, three}
-use Rattle.lc_reading.specs.Results.{IsReading, IsReadFault}
-use Rattle.lc_reading.specs.declared.flaw.ReadFault.{ReadFault}
-use Rattle.lc_reading.specs.declared.flaw.ReadFault.TheVariants.{Flawed}
+use Rattle.lc_reading.specs.Parts.{IsNext, IsThree, tree_of, place_of}
+use Rattle.lc_reading.specs.Readings.{both, three}
 use Rattle.lc_reading.specs.declared.part.Part.{Part}
 use Rattle.lc_text.specs.Terms.{pair, triple}
 use Rattle.lc_spec_text.specs.Scopes.{Columns, branch_names}
@@ -20,11 +13,6 @@ use Rattle.lc_spec_text.specs.Branches.{branch_parts_reading}
 use Rattle.lc_spec_text.specs.Choices.{parameters_reading, parameters_in, choice_parts_reading, ways_reading}
 use Rattle.lc_spec_text.specs.Operations.{arguments_reading, count_reading, count_in, variables_in, operation_parts_reading}
 use Rattle.lc_spec_text.specs.Specifications.{columns_reading, columns_in, operations_reading, specification_parts_reading}
-
--- a misfit that is passed on
-pub misfit_told : {T X : Type 0} (view : T → X) (r : Reading X) (misfit : Misfit) (t : Result T ReadFault) → r ≡ flawed (misfit_flaw misfit) → IsErrAnd t (λ y. y ≡ Flawed (misfit_flaw misfit)) → IsReading view r t
-misfit_told view r misfit (Ok x) e same = absurd same
-misfit_told view r misfit (Err f) e same = subst (IsReadFault r) (sym same) e
 
 -- an operation's parts at i, j and k, of us, and its branches or choices from l on
 operation_at : (columns : Columns) (before : List (List ℕ)) (n m i j k l : ℕ) (t u v b : Tree) (us us1 us2 us3 bs : Trees)

@@ -3,6 +3,7 @@ use Rattle.std.proofs.Common.{◌≡◌, ℕ, suc, zero, Bool, true, false, List
 use Rattle.std.specs.Prelude.{option_map, ◌||◌, nat_lt}
 use Rattle.std.specs.List.{list_any}
 use Rattle.std.proofs.lemmas.Bool.Decides.{nat_tests}
+use Rattle.lc_lemmas.proofs.Numbers.{later_test, first_test}
 use Rattle.lc_reading.specs.Words.{is}
 use Rattle.lc_reading.specs.Listed.{place_of}
 
@@ -15,16 +16,10 @@ never : (o : Option ℕ) → false ≡ is_before 0 o
 never None = refl
 never (Some p) = grind (arith, nat_tests)
 
-later : (p k : ℕ) → nat_lt p k ≡ nat_lt (suc p) (suc k)
-later p k = grind (arith, nat_tests)
-
-first : (k : ℕ) → true ≡ nat_lt 0 (suc k)
-first k = grind (arith, nat_tests)
-
 step : (here b : Bool) (k : ℕ) (o : Option ℕ) → b ≡ is_before k o → (here || b) ≡ is_before (suc k) (cond here (Some 0) (option_map suc o))
-step true b k o e = first k
+step true b k o e = first_test k
 step false b k None e = e
-step false b k (Some p) e = e ∙ later p k
+step false b k (Some p) e = e ∙ later_test p k
 
 -- a name is among the first of names exactly if its first place is before
 pub stands_before : (vs : List (List ℕ)) (w : List ℕ) (k : ℕ) → list_any (is w) (take k vs) ≡ is_before k (place_of vs w)

@@ -1,19 +1,19 @@
 -- In a specification that is read all names are declared.
 use Rattle.std.proofs.Common.{◌≡◌, ℕ, suc, ◌+◌, ◌<◌, Bool, true, false, ◌&&◌, cond, List, [], ◌∷◌, ◌++◌, length, length-append, Option, Some, None, Ok, Err, refl, sym, ap, ◌∙◌, subst, arith, IfSome}
-use Rattle.std.proofs.lemmas.Bool.{eq-eqb}
+use Rattle.std.proofs.lemmas.Bool.{eq-eqb, and_from}
 use Rattle.std.proofs.lemmas.List.{length-map}
 use Rattle.std.proofs.lemmas.Bool.Decides.{nat_tests}
 use Rattle.std.specs.Prelude.{Result, Vec, ℤ, pos, negsuc, option_map, codes, nat_lt, ◌==◌, IfOk}
 use Rattle.std.specs.declared.alloc.Global.{Global}
 use Rattle.std.specs.List.{list_all}
+use Rattle.lc_lemmas.proofs.Booleans.{left_true}
 use Rattle.lc_sexp.specs.Numerals.{integer_of}
 use Rattle.lc_sexp.specs.Parts.{fits, beyond, fits_i64, integer_within}
 use Rattle.lc_sexp.specs.Trees.{Tree, Trees, atom, list, none, ◌▸◌, item_count}
-use Rattle.lc_term.proofs.Tests.{left_true}
 use Rattle.lc_term.specs.Places.{known, term_passes, column_passes, is_known, are_known}
 use Rattle.lc_term.specs.Syntax.{Term, Column, Formula, Formulas}
 use Rattle.lc_term.specs.Truth.{is_ground, are_ground}
-use Rattle.lc_reading.proofs.Holding.{Holds, holds_of_fine, holds_unit, holds_weaker, and_holds, mapped_holds, both_holds, three_holds, ended_holds, limited_holds, if_holds, listed_holds, behind_holds, and_true, each_holds, counted_holds, declared_holds, declared_counts}
+use Rattle.lc_reading.proofs.Holding.{Holds, holds_of_fine, holds_unit, holds_weaker, and_holds, mapped_holds, both_holds, three_holds, ended_holds, limited_holds, if_holds, listed_holds, behind_holds, each_holds, counted_holds, declared_holds, declared_counts}
 use Rattle.lc_reading.specs.Listed.{place_of, declared_by}
 use Rattle.lc_reading.specs.Naming.{is_full, name_reading}
 use Rattle.lc_reading.specs.Readings.{Reading, fine, flawed, wrong, listed_reading}
@@ -23,7 +23,7 @@ use Rattle.lc_reading.specs.Words.{is}
 use Rattle.lc_reading.specs.declared.flaw.ReadFault.{ReadFault}
 use Rattle.lc_reading.specs.declared.pass.Pass.TheVariants.{Shape, Bound}
 use Rattle.lc_base.specs.declared.name.Name.{Name}
-use Rattle.lc_base.specs.Limits.{argument_limit, column_limit, operation_limit, reply_limit}
+use Rattle.lc_base.specs.Limits.{argument_limit, column_limit, operation_limit, reply_limit, parameter_limit}
 use Rattle.lc_text.specs.Names.{column_at}
 use Rattle.lc_text.proofs.ReadHolds.{Kept, OfUsable, term_holds, formula_holds}
 use Rattle.lc_text.specs.DeclaredColumn.{column_parts_reading}
@@ -76,7 +76,7 @@ branch_kept : (columns variables : List (List ℕ))
 branch_kept columns variables =
     let c = length columns in
     let v = suc (length variables) in
-    let two = λ (t u : Term) (h : TermKnown c v t) (g : TermKnown c v u). and_true (term_passes (known c v) t) (term_passes (known c v) u) h g in
+    let two = λ (t u : Term) (h : TermKnown c v t) (g : TermKnown c v u). and_from (term_passes (known c v) t) (term_passes (known c v) u) h g in
     record {
       plain = λ extra. refl;
       variables = λ w. variable_below v (place_of variables w) (below_next (length variables) (place_of variables w) (placed_below variables w));
@@ -85,15 +85,15 @@ branch_kept columns variables =
       sums = two;
       differences = two;
       multiples = λ z t h. h;
-      reads = λ d t h g. and_true (column_passes (known c v) d) (term_passes (known c v) t) h g;
+      reads = λ d t h g. and_from (column_passes (known c v) d) (term_passes (known c v) t) h g;
       orders = λ t u h g. (refl, two t u h g);
       equations = λ t u h g. (refl, two t u h g);
       negations = λ f h. h;
       conjunctions = λ fs h. h;
       disjunctions = λ fs h. h;
-      implications = λ f g h k. (and_true (is_ground f) (is_ground g) h.0 k.0, and_true (is_known c v f) (is_known c v g) h.1 k.1);
+      implications = λ f g h k. (and_from (is_ground f) (is_ground g) h.0 k.0, and_from (is_known c v f) (is_known c v g) h.1 k.1);
       no_parts = (refl, refl);
-      more_parts = λ f fs h g. (and_true (is_ground f) (are_ground fs) h.0 g.0, and_true (is_known c v f) (are_known c v fs) h.1 g.1);
+      more_parts = λ f fs h g. (and_from (is_ground f) (are_ground fs) h.0 g.0, and_from (is_known c v f) (are_known c v fs) h.1 g.1);
     }
 
 known_term : (columns variables : List (List ℕ)) (n : ℕ) (t : Tree) → Holds (TermKnown (length columns) (suc (length variables))) (term_reading (branch_names columns variables) [] n t)
@@ -122,7 +122,7 @@ update_parts_hold columns variables n m (t ▸ u ▸ x ▸ ts) =
     ended_holds (λ p. update_is_resolved c v (the_update p) ≡ true) _ ts _
     (three_holds (λ k. nat_lt k c ≡ true) (TermKnown c v) (TermKnown c v) (λ p. update_is_resolved c v (the_update p) ≡ true) triple _ _ _
     (written_holds columns m t) (known_term columns.own variables _ u) (known_term columns.own variables _ x)
-    (λ k i y h g e. and_true (nat_lt k c) (term_passes (known c v) i && term_passes (known c v) y) h (and_true (term_passes (known c v) i) (term_passes (known c v) y) g e)))
+    (λ k i y h g e. and_from (nat_lt k c) (term_passes (known c v) i && term_passes (known c v) y) h (and_from (term_passes (known c v) i) (term_passes (known c v) y) g e)))
 
 update_holds : (columns : Columns) (variables : List (List ℕ)) (n : ℕ) (t : Tree)
     → Holds (λ u. update_is_resolved (length columns.own) (suc (length variables)) u ≡ true) (update_reading columns (branch_names columns.own variables) n t)
@@ -177,7 +177,7 @@ branch_parts_hold columns variables count n m (t ▸ u ▸ x ▸ ts) =
     (known_guard columns.own variables m t) (updates_hold columns variables _ u) (replies_hold columns.own variables count _ x)
     (λ f us rs g1 g2 g3. (
       subst (λ k. branch_is_resolved c k (the_branch ((f, us), rs)) ≡ true) (no_more v)
-          (and_true (is_ground f && is_known c v f) (list_all test us && list_all (term_passes (known c v)) rs) (and_true (is_ground f) (is_known c v f) g1.0 g1.1) (and_true (list_all test us) (list_all (term_passes (known c v)) rs) g2 g3.0)),
+          (and_from (is_ground f && is_known c v f) (list_all test us && list_all (term_passes (known c v)) rs) (and_from (is_ground f) (is_known c v f) g1.0 g1.1) (and_from (list_all test us) (list_all (term_passes (known c v)) rs) g2 g3.0)),
       g3.1,
     )))
 
@@ -193,8 +193,8 @@ AllBranched c v count bs = (list_all (resolved_behind c v) bs ≡ true) × ((k :
 
 more_branched : (c v : ℕ) (count : Option ℕ) (b : Branch) (bs : List Branch) → Branched c v count b → AllBranched c v count bs → AllBranched c v count (b ∷ bs)
 more_branched c v count b bs h g = (
-  and_true (resolved_behind c v b) (list_all (resolved_behind c v) bs) h.0 g.0,
-  λ k e. and_true (length b.replies == k) (list_all (λ (b : Branch). length b.replies == k) bs) (eq-eqb (length b.replies) k (h.1 k e)) (g.1 k e),
+  and_from (resolved_behind c v b) (list_all (resolved_behind c v) bs) h.0 g.0,
+  λ k e. and_from (length b.replies == k) (list_all (λ (b : Branch). length b.replies == k) bs) (eq-eqb (length b.replies) k (h.1 k e)) (g.1 k e),
 )
 
 branches_hold : (columns : Columns) (variables : List (List ℕ)) (count : Option ℕ) (m : ℕ) (ts : Trees)
@@ -216,7 +216,7 @@ one_name limit before n (atom w) = always (name_reading limit before n (atom w))
 
 parameters_hold : (variables : List (List ℕ)) (n : ℕ) (t : Tree) → Holds (λ ws. length ws ≡ length (parameters_in t)) (parameters_reading variables n t)
 parameters_hold variables n (atom w) = tt
-parameters_hold variables n (list ts) = let limit = Some (3 + length variables) in declared_counts (name_reading limit) declared_by (one_name limit) variables (n + 1) ts
+parameters_hold variables n (list ts) = let limit = Some (parameter_limit + length variables) in declared_counts (name_reading limit) declared_by (one_name limit) variables (n + 1) ts
 
 label_holds : (variables before : List (List ℕ)) (m : ℕ) (a b : Tree) → Holds (λ l. length l.1 ≡ length (parameters_in b)) (label_reading variables before m a b)
 label_holds variables before m a b =
@@ -306,7 +306,7 @@ OperationMade c p = operation_is_resolved c (the_operation p) ≡ true
 
 operation_made : (c v : ℕ) (count : Option ℕ) (name : List ℕ) (ws : List (List ℕ)) (k : ℕ) (bs : List Branch) → v ≡ 2 + length ws → count ≡ Some k → AllBranched c v count bs → OperationMade c (((name, ws), k), bs)
 operation_made c v count name ws k bs e g h =
-    and_true (list_all (resolved_behind c (2 + length ws)) bs) (list_all (λ (b : Branch). length b.replies == k) bs)
+    and_from (list_all (resolved_behind c (2 + length ws)) bs) (list_all (λ (b : Branch). length b.replies == k) bs)
     (subst (λ v. list_all (resolved_behind c v) bs ≡ true) e h.0) (h.1 k g)
 
 operation_parts_hold : (columns : Columns) (before : List (List ℕ)) (n m : ℕ) (ts : Trees) → Holds (OperationMade (length columns.own)) (operation_parts_reading columns before n m ts)
@@ -373,7 +373,7 @@ parts_hold others n m (t ▸ u ▸ o ▸ os) =
     let test = operation_is_resolved (length (columns_in u)) in
     three_holds (λ (w : List ℕ). Unit {0}) (λ ds. length ds ≡ length (columns_in u)) (λ os. are_resolved (length (columns_in u)) os ≡ true) IsResolved triple _ _ _
     (holds_unit (name_reading None [] m t)) (columns_hold (m + item_count t) u)
-    (holds_weaker (λ os. (list_all test os ≡ true) × (names_differ os ≡ true)) (λ os. are_resolved (length (columns_in u)) os ≡ true) _ (λ os h. and_true (list_all test os) (names_differ os) h.0 h.1)
+    (holds_weaker (λ os. (list_all test os ≡ true) × (names_differ os ≡ true)) (λ os. are_resolved (length (columns_in u)) os ≡ true) _ (λ os h. and_from (list_all test os) (names_differ os) h.0 h.1)
     (and_holds (λ os. list_all test os ≡ true) (λ os. names_differ os ≡ true) _
     (declared_holds test (operation_reading columns) second_name (operation_holds columns) [] (m + item_count t + item_count u) (o ▸ os))
     (operations_differ columns (m + item_count t + item_count u) (o ▸ os))))

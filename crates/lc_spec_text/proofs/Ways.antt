@@ -1,8 +1,8 @@
 -- How the operations go that are read: by branches without names, or by choices, each with a name of its own.
-use Rattle.std.proofs.Common.{◌≡◌, ℕ, zero, suc, ◌+◌, Bool, true, false, ◌&&◌, ◌==◌, cond, List, [], ◌∷◌, ◌++◌, map, length, Option, Some, None, refl, sym, ap, ◌∙◌, subst}
+use Rattle.std.proofs.Common.{◌≡◌, ℕ, zero, suc, ◌+◌, Bool, true, false, ◌==◌, cond, List, [], ◌∷◌, ◌++◌, map, length, Option, Some, None, refl, sym, ap, ◌∙◌, subst}
 use Rattle.std.specs.Prelude.{codes, bytes_eq, option_map, slice_get}
 use Rattle.std.specs.List.{list_any}
-use Rattle.std.proofs.lemmas.Bool.{eq-eqb, or_parts}
+use Rattle.std.proofs.lemmas.Bool.{eq-eqb, or_parts, and_from, and_left, false_from_ne_true}
 use Rattle.std.proofs.lemmas.Slice.Eq.{bytes_eq-Decides}
 use Rattle.lc_base.specs.Limits.{parameter_limit}
 use Rattle.lc_sexp.specs.Parts.{fits, misshapen, form_fit}
@@ -16,7 +16,7 @@ use Rattle.lc_text.specs.Terms.{pair}
 use Rattle.lc_seq.proofs.Choosing.{left_in}
 use Rattle.lc_seq.specs.Sequential.{Chosen, InOrder, ByName, given_in}
 use Rattle.lc_seq.specs.Specification.{Branch, is_in_order, agree, chosen}
-use Rattle.lc_reading.proofs.Holding.{Holds, holds_unit, holds_weaker, and_holds, and_true, mapped_holds, both_holds}
+use Rattle.lc_reading.proofs.Holding.{Holds, holds_unit, holds_weaker, and_holds, mapped_holds, both_holds}
 use Rattle.lc_reading.specs.Listed.{declared_by, place_of}
 use Rattle.lc_reading.specs.Naming.{name_reading, declaration_reading}
 use Rattle.lc_reading.specs.Readings.{Reading, wrong, behind_reading}
@@ -205,13 +205,13 @@ ways_said columns variables count m ts = by_test (begin_with_choice ts) refl whe
       (λ bs h. record { branches = λ f. h; choices = λ f. absurd (let no : true ≡ false = sym f ∙ e in cc) }) (branches_in_order columns (branch_names columns.own variables) count m ts)
 
 -- there is one for each form
-each_counted : {X : Type 0} (read : ℕ → Tree → Reading X) (m : ℕ) (ts : Trees) → Holds (λ xs. length xs ≡ tree_count ts) (each_reading read m ts)
+pub each_counted : {X : Type 0} (read : ℕ → Tree → Reading X) (m : ℕ) (ts : Trees) → Holds (λ xs. length xs ≡ tree_count ts) (each_reading read m ts)
 each_counted read m none = refl
 each_counted read m (t ▸ ts) =
     both_holds (λ x. Unit {0}) (λ xs. length xs ≡ tree_count ts) (λ xs. length xs ≡ tree_count (t ▸ ts)) (λ x xs. x ∷ xs) (read m t) (each_reading read (m + item_count t) ts)
     (holds_unit (read m t)) (each_counted read (m + item_count t) ts) (λ x xs h g. ap suc g)
 
-declared_counted : {X : Type 0} (read : List (List ℕ) → ℕ → Tree → Reading X) (declares : Tree → List (List ℕ)) (before : List (List ℕ)) (m : ℕ) (ts : Trees)
+pub declared_counted : {X : Type 0} (read : List (List ℕ) → ℕ → Tree → Reading X) (declares : Tree → List (List ℕ)) (before : List (List ℕ)) (m : ℕ) (ts : Trees)
     → Holds (λ xs. length xs ≡ tree_count ts) (declared_reading read declares before m ts)
 declared_counted read declares before m none = refl
 declared_counted read declares before m (t ▸ ts) =
@@ -244,26 +244,18 @@ choices_named none (b ∷ bs) h = absurd h
 choices_named (t ▸ ts) [] h = absurd h
 choices_named (t ▸ ts) (b ∷ bs) ((us, e, h), g) = (has_label us b h, choices_named ts bs g)
 
-and_false : (a b : Bool) → a ≡ false → (a && b) ≡ false
-and_false true b e = absurd (cc)
-and_false false b e = refl
-
-is_false : (b : Bool) → (b ≡ true → ⊥) → b ≡ false
-is_false true h = absurd (h refl)
-is_false false h = refl
-
 -- the two names are distinguished in whichever order they come
 other_name : (v w : List ℕ) → is w v ≡ false → bytes_eq v w ≡ false
-other_name v w e = is_false (bytes_eq v w) (λ same. let there : is w v ≡ true = (bytes_eq-Decides w v).1 (sym ((bytes_eq-Decides v w).0 same)) in let no : true ≡ false = sym there ∙ e in cc)
+other_name v w e = false_from_ne_true (bytes_eq v w) (λ same. let there : is w v ≡ true = (bytes_eq-Decides w v).1 (sym ((bytes_eq-Decides v w).0 same)) in let no : true ≡ false = sym there ∙ e in cc)
 
 not_agreed : {A : Type 0} (l : Chosen (List ℕ)) (w : List ℕ) (xs : List A) → is w (name_in l) ≡ false → agree l (ByName w xs) ≡ false
 not_agreed InOrder w xs e = refl
-not_agreed (ByName v ps) w xs e = and_false (bytes_eq v w) (length ps == length xs) (other_name v w e)
+not_agreed (ByName v ps) w xs e = and_left (bytes_eq v w) (length ps == length xs) (other_name v w e)
 
 agreed : {A : Type 0} (l : Chosen (List ℕ)) (w : List ℕ) (xs : List A) → is_in_order l ≡ false → is w (name_in l) ≡ true → length (given_in l) ≡ length xs → agree l (ByName w xs) ≡ true
 agreed InOrder w xs named e g = absurd (cc)
 agreed (ByName v ps) w xs named e g =
-    and_true (bytes_eq v w) (length ps == length xs) ((bytes_eq-Decides v w).1 (sym ((bytes_eq-Decides w v).0 e))) (eq-eqb (length ps) (length xs) g)
+    and_from (bytes_eq v w) (length ps == length xs) ((bytes_eq-Decides v w).1 (sym ((bytes_eq-Decides w v).0 e))) (eq-eqb (length ps) (length xs) g)
 
 left_out : {A : Type 0} (by : Chosen A) (b : Branch) (bs : List Branch) → agree b.label by ≡ false → chosen by (b ∷ bs) ≡ chosen by bs
 left_out by b bs e = ap (λ t. cond t (b ∷ chosen by bs) (chosen by bs)) e

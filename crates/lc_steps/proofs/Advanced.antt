@@ -1,8 +1,8 @@
 -- The step of a client, from what its instruction does and what is done after it.
-use Rattle.std.proofs.Common.{◌≡◌, ℕ, ◌≤◌, true, List, [], ◌∷◌, ℤ, Bool, false, Option, Some, None, Result, Ok, Err, cond, length, refl, sym, ap, subst, ◌∙◌, arith}
+use Rattle.std.proofs.Common.{◌≡◌, ℕ, ◌≤◌, true, List, ℤ, Bool, false, Option, Some, None, Result, Ok, Err, cond, length, refl, sym, ap, subst, ◌∙◌}
 use Rattle.std.specs.Prelude.{slice_get, IfOk, IfSome, IsErrAnd}
 use Rattle.lc_term.specs.Meaning.{State}
-use Rattle.lc_term.specs.Updates.{Write, stored_all, AreWithin}
+use Rattle.lc_term.specs.Updates.{stored_all, AreWithin}
 use Rattle.lc_object.specs.Syntax.{Object, Instr, Point}
 use Rattle.lc_object.specs.declared.instr.EdgeKind.{EdgeKind}
 use Rattle.lc_object.specs.declared.instr.EdgeKind.TheVariants.{Next}
@@ -25,12 +25,13 @@ use Rattle.lc_ride.specs.Riding.{Ridden}
 use Rattle.lc_sound.specs.Instrumented.{Instrumented}
 use Rattle.lc_steps.specs.Replies.{is_justified, ReplyFits}
 use Rattle.lc_steps.specs.Stepping.{world_with, ridden, RiddenFits, JustifiedFits, answered, done_behind, BehindFits, InstrumentedFits}
-use Rattle.lc_steps.specs.StepView.{what_of, GoesOn, IsAdvanced}
+use Rattle.lc_steps.specs.StepView.{GoesOn, IsAdvanced}
 use Rattle.lc_steps.specs.StepParts.{step_says, IsEffectHere, AreRidersSeen, IsReturned, rider_edge, rider_variables, event_of, reached, IsBehind}
 use Rattle.lc_steps.specs.declared.steps.Step.{Step}
-use Rattle.lc_steps.proofs.Once.{does-once}
 use Rattle.lc_steps.proofs.Telling.{AreOpen, step-is, no-step}
 use Rattle.lc_steps.proofs.Seen.{variables-there, placed-there, point-there, outcome-seen, open-there}
+use Rattle.lc_sound.proofs.Once.{does_once}
+use Rattle.lc_machine.proofs.Stepping.{more_within}
 
 -- ---- faults
 
@@ -96,13 +97,8 @@ effect-here object object' place s s' r same columns placed effect =
     let here = effect at.0 (ap (λ (x : Object). slice_get x.points place.point.0) same ∙ at.1) in
     (at.0, at.1, subst (λ x. IsEffect x (at.0).instruction s' (variables_of place) r) same (subst (λ x. IsEffect object (at.0).instruction x (variables_of place) r) columns here))
 
--- what is stored belongs to the columns
-more-within : (n m : ℕ) (ws : List Write) → AreWithin n ws → n ≤ m → AreWithin m ws
-more-within n m [] h le = tt
-more-within n m (w ∷ ws) h le = (omega (arith, h.0), more-within n m ws h.1 le)
-
 pub within-columns : (object : Object) (p : ℕ) (vs : List ℤ) (s : State) (n : ℕ) (r : Result Effect StepFault) → IsEffectHere object p vs s r → length (initial_numbers object) ≤ n → IfOk r (λ done. AreWithin n (writes_in done))
-within-columns object p vs s n (Ok done) (point, at, (fits, does, to, within)) le = more-within (length (initial_numbers object)) n (writes_in done) within le
+within-columns object p vs s n (Ok done) (point, at, (fits, does, to, within)) le = more_within (length (initial_numbers object)) n (writes_in done) within le
 within-columns object p vs s n (Err fault) effect le = tt
 
 -- the riders after it are seen
@@ -153,7 +149,7 @@ module _ (D : Development) (w : World) (c p : ℕ) (vs : List ℤ) (i : Instr) (
     all-fits h = (
       fits,
       λ l z o d.
-          let same = does-once D.object w.columns vs i k l s z outcome o does d in
+          let same = does_once D.object w.columns vs i k l s z outcome o does d in
           subst (λ x. BehindFits D c p vs x z o) same.0 (subst (λ x. BehindFits D c p vs k x o) same.1 (subst (λ x. BehindFits D c p vs k s x) same.2 h)),
     )
 

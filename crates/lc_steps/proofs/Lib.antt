@@ -1,6 +1,4 @@
-mod Elements
 mod Wider
-mod Once
 mod Replying
 mod Telling
 mod Ridden

@@ -1,18 +1,18 @@
 -- Whether a return's numbers are justified, as a test and as a fact.
-use Rattle.std.proofs.Common.{◌≡◌, ℕ, zero, suc, ◌≤◌, ◌<◌, ◌+◌, Bool, true, false, ◌&&◌, ◌||◌, List, [], ◌∷◌, ℤ, pos, take, length, map, refl, sym, ap, subst, ◌∙◌, inl, inr, arith, Result, Ok, Err}
+use Rattle.std.proofs.Common.{◌≡◌, ℕ, zero, suc, ◌≤◌, Bool, true, false, ◌&&◌, ◌||◌, List, [], ◌∷◌, ℤ, pos, take, length, refl, sym, ap, subst, ◌∙◌, inl, inr, arith, Result, Ok, Err}
 use Rattle.std.specs.Prelude.{◌⊎◌, FitsSigned, OkIff, IsErrAnd}
 use Rattle.std.specs.Int.{w64}
 use Rattle.std.specs.Ordering.{int_eq}
 use Rattle.std.specs.Cmp.Rules.{signed_items}
 use Rattle.std.specs.Cmp.Lexicographic.{pointwise}
-use Rattle.std.proofs.lemmas.Bool.{false≢true}
+use Rattle.std.proofs.lemmas.Bool.{false≢true, and_from, or_left, or_right}
 use Rattle.std.proofs.lemmas.Bool.Decides.{Decides-int_eq}
 use Rattle.std.proofs.lemmas.List.{take-map}
+use Rattle.lc_lemmas.proofs.Booleans.{left_true, right_true, or_cases}
 use Rattle.lc_base.specs.declared.ids.ColId.{ColId}
 use Rattle.lc_term.specs.Meaning.{State}
 use Rattle.lc_term.specs.SystemColumns.{pend, rep_columns, noted, note_columns, column_count}
 use Rattle.lc_term.specs.Updates.{row}
-use Rattle.lc_term.proofs.Tests.{left_true, right_true, both_true}
 use Rattle.lc_term.specs.declared.state.EvalFault.{EvalFault}
 use Rattle.lc_object.specs.View.{columns_of}
 use Rattle.lc_machine.specs.Below.{AreBelow}
@@ -23,18 +23,6 @@ use Rattle.lc_rider.specs.Rider.{IsJustified}
 use Rattle.lc_steps.specs.StepParts.{step_says, IsReturned}
 use Rattle.lc_steps.specs.Replies.{stand_in, StandFits, is_noted, NoteFits, is_justified, ReplyFits}
 
-either : (a b : Bool) → (a || b) ≡ true → (a ≡ true) ⊎ (b ≡ true)
-either true b e = inl refl
-either false b e = inr e
-
-left-or : (a b : Bool) → a ≡ true → (a || b) ≡ true
-left-or true b e = refl
-left-or false b e = absurd cc
-
-right-or : (a b : Bool) → b ≡ true → (a || b) ≡ true
-right-or true b e = refl
-right-or false b e = e
-
 module _ (first : ℕ) (m : State) (c : ℕ) (ns : List ℤ) where
   stands-to : (cs : List ℕ) → stand_in first m c ns cs ≡ true → take (length ns) (row m cs (pos c)) ≡ ns
   stands-to cs e = take-map (λ x. m x (pos c)) (length ns) cs ∙ (signed_items (row m (take (length ns) cs) (pos c)) ns).0 e
@@ -44,7 +32,7 @@ module _ (first : ℕ) (m : State) (c : ℕ) (ns : List ℤ) where
 
   pub justified-to : is_justified first m c ns ≡ true → IsJustified first m c ns
   justified-to e =
-      by-kind (either (int_eq (m (pend first) (pos c)) (pos 2) && stand_in first m c ns (rep_columns first)) (int_eq (m (pend first) (pos c)) (pos 1) && is_noted first m c ns) e)
+      by-kind (or_cases (int_eq (m (pend first) (pos c)) (pos 2) && stand_in first m c ns (rep_columns first)) (int_eq (m (pend first) (pos c)) (pos 1) && is_noted first m c ns) e)
     where
       by-kind : (((int_eq (m (pend first) (pos c)) (pos 2) && stand_in first m c ns (rep_columns first)) ≡ true) ⊎ ((int_eq (m (pend first) (pos c)) (pos 1) && is_noted first m c ns) ≡ true)) → IsJustified first m c ns
       by-kind (inl h) = inl (
@@ -61,12 +49,12 @@ module _ (first : ℕ) (m : State) (c : ℕ) (ns : List ℤ) where
 
   pub justified-from : IsJustified first m c ns → is_justified first m c ns ≡ true
   justified-from (inl (two, stand)) =
-      left-or (int_eq (m (pend first) (pos c)) (pos 2) && stand_in first m c ns (rep_columns first)) _
-      (both_true _ _ ((Decides-int_eq (m (pend first) (pos c)) (pos 2)).1 two) (stands-from (rep_columns first) stand))
+      or_left (int_eq (m (pend first) (pos c)) (pos 2) && stand_in first m c ns (rep_columns first)) _
+      (and_from _ _ ((Decides-int_eq (m (pend first) (pos c)) (pos 2)).1 two) (stands-from (rep_columns first) stand))
   justified-from (inr (one, noted-one, stand)) =
-      right-or (int_eq (m (pend first) (pos c)) (pos 2) && stand_in first m c ns (rep_columns first)) (int_eq (m (pend first) (pos c)) (pos 1) && is_noted first m c ns)
-      (both_true _ _ ((Decides-int_eq (m (pend first) (pos c)) (pos 1)).1 one)
-      (both_true _ _ ((Decides-int_eq (m (noted first) (pos c)) (pos 1)).1 noted-one) (stands-from (note_columns first) stand)))
+      or_right (int_eq (m (pend first) (pos c)) (pos 2) && stand_in first m c ns (rep_columns first)) (int_eq (m (pend first) (pos c)) (pos 1) && is_noted first m c ns)
+      (and_from _ _ ((Decides-int_eq (m (pend first) (pos c)) (pos 1)).1 one)
+      (and_from _ _ ((Decides-int_eq (m (noted first) (pos c)) (pos 1)).1 noted-one) (stands-from (note_columns first) stand)))
 
   -- ---- as it is computed
 

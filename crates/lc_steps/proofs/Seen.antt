@@ -1,19 +1,18 @@
 -- What is known about a client at a point, and that riders use only what exists.
-use Rattle.std.proofs.Common.{◌≡◌, ℕ, ◌+◌, ◌<◌, ◌≤◌, Bool, true, false, ◌&&◌, if◌then◌else◌, List, [], ◌∷◌, ℤ, pos, Option, Some, None, map, length, replicate, refl, sym, ap, ap₂, subst, ◌∙◌, eq-eqb, arith, inl, inr}
-use Rattle.std.specs.Prelude.{slice_get, option_map, nat_le, nat_lt}
+use Rattle.std.proofs.Common.{◌≡◌, ℕ, ◌+◌, ◌≤◌, Bool, true, false, ◌&&◌, if◌then◌else◌, List, [], ◌∷◌, ℤ, Option, Some, None, length, refl, sym, ap, subst, ◌∙◌, eq-eqb, arith, inl, inr}
+use Rattle.std.specs.Prelude.{slice_get, option_map, nat_le}
 use Rattle.std.specs.List.{list_all}
-use Rattle.std.proofs.lemmas.Bool.{eqb-true}
-use Rattle.std.proofs.lemmas.Bool.Decides.{nat_tests}
-use Rattle.std.proofs.lemmas.List.{length-append, length-map, length-replicate}
+use Rattle.std.proofs.lemmas.Bool.{and_from, leb-true}
 use Rattle.std.proofs.lemmas.Option.{same_Some}
+use Rattle.lc_lemmas.proofs.Booleans.{left_true, right_true}
+use Rattle.lc_lemmas.proofs.Numbers.{test_from_below}
 use Rattle.lc_base.specs.Limits.{action_limit, argument_limit, column_limit, condition_limit}
 use Rattle.lc_term.specs.Lists.{Every}
 use Rattle.lc_term.specs.Meaning.{State}
-use Rattle.lc_term.specs.Syntax.{Term, Formula}
+use Rattle.lc_term.specs.Syntax.{Formula}
 use Rattle.lc_term.specs.SystemColumns.{column_count}
 use Rattle.lc_term.specs.Truth.{is_ground}
 use Rattle.lc_term.specs.Places.{known, is_known, term_passes}
-use Rattle.lc_term.proofs.Tests.{left_true, right_true, both_true}
 use Rattle.lc_seq.specs.Branches.{arity, op_branches}
 use Rattle.lc_seq.specs.Sequential.{given_in}
 use Rattle.lc_object.specs.Edges.{Edge}
@@ -23,7 +22,7 @@ use Rattle.lc_object.specs.WellFormed.{variable_count}
 use Rattle.lc_object.specs.declared.instr.EdgeKind.{EdgeKind}
 use Rattle.lc_machine.specs.MayRun.{variables_at, variables_in}
 use Rattle.lc_machine.specs.Placed.{is_count, is_placed}
-use Rattle.lc_machine.specs.Step.{Does, Outcome, Goes, Answers, assigned}
+use Rattle.lc_machine.specs.Step.{Does, Outcome, Goes, Answers}
 use Rattle.lc_machine.specs.World.{In, initial_numbers}
 use Rattle.lc_machine.proofs.Bodies.{point_is_placed, answers_next}
 use Rattle.lc_machine.proofs.EdgeLaw.{by_edge}
@@ -33,7 +32,7 @@ use Rattle.lc_outline.specs.Development.{Development, On, first_system, same_kin
 use Rattle.lc_outline.specs.Limits.{is_limited, outlines_are_limited}
 use Rattle.lc_outline.specs.Sizes.{sizes_of, count}
 use Rattle.lc_outline.specs.Resolved.{is_resolved, IsConditionResolved, IsRiderResolved, IsOnResolved}
-use Rattle.lc_outline.specs.Scope.{column_total, IsTermScoped, IsMarkingScoped, IsDeedScoped, IsConditionScoped, IsRiderScoped, IsOnScoped}
+use Rattle.lc_outline.specs.Scope.{column_total, IsMarkingScoped, IsDeedScoped, IsConditionScoped, IsRiderScoped, IsOnScoped}
 use Rattle.lc_outline.proofs.Matched.{all_resolved, arity_and_replies_few}
 use Rattle.lc_outline.proofs.Resolving.{passed_is_resolved, all_scoped}
 use Rattle.lc_outline.proofs.Scoped.{scoped_known}
@@ -42,6 +41,8 @@ use Rattle.lc_ride.specs.RideView.{AreThere, marking_is_evaluable, deed_is_evalu
 use Rattle.lc_steps.specs.StepParts.{AreRidersSeen, rider_edge, rider_variables}
 use Rattle.lc_steps.proofs.Telling.{AreOpen}
 use Rattle.lc_steps.proofs.Wider.{branches-wider}
+use Rattle.lc_machine.proofs.ArrayColumns.{initial_count}
+use Rattle.lc_machine.proofs.Stepping.{counted}
 
 -- the columns of specification and system are there
 pub columns_are_there : (D : Development) → is_resolved D ≡ true → (n : ℕ) → n ≡ column_count (first_system D) → AreThere D.specification.operations (first_system D) n
@@ -53,17 +54,9 @@ columns_are_there D R n is = record {
 pub arity_is_small : (D : Development) → is_resolved D ≡ true → (o : ℕ) → arity D.specification.operations o ≤ argument_limit
 arity_is_small D R o = (arity_and_replies_few D (passed_is_resolved D R) o).0
 
-initial-count : (object : Object) → length (initial_numbers object) ≡ length object.abstracts + length object.concretes
-initial-count object =
-    length-append (replicate (length object.abstracts) (pos 0, pos 0)) (map (λ c. (c.slope, c.start)) object.concretes) ∙
-    ap₂ (λ a b. a + b) (length-replicate (length object.abstracts) (pos 0, pos 0)) (length-map object.concretes (λ c. (c.slope, c.start)))
-
 -- and those of the object
 pub columns-there : (D : Development) → is_resolved D ≡ true → (n : ℕ) → n ≡ column_count (first_system D) → length (initial_numbers D.object) ≤ n
-columns-there D R n is = let a = initial-count D.object in let b = (passed_is_resolved D R).abstracts in omega arith
-
-few-at-most : (n m : ℕ) → nat_le n m ≡ true → n ≤ m
-few-at-most n m h = grind (arith, nat_tests)
+columns-there D R n is = let a = initial_count D.object in let b = (passed_is_resolved D R).abstracts in omega arith
 
 -- and there are few but for those of the system
 pub few_columns : (D : Development) → is_limited D ≡ true → first_system D ≤ column_limit
@@ -72,13 +65,9 @@ few_columns D h =
     let actions = nat_le (length D.actions) action_limit in
     let outlines = outlines_are_limited D.specification.operations D.object.points D.outlines in
     let conditions = nat_le (count (sizes_of D)) condition_limit in
-    few-at-most (first_system D) column_limit (left_true columns actions (left_true (columns && actions) outlines (left_true (columns && actions && outlines) conditions h)))
+    leb-true (first_system D) column_limit (left_true columns actions (left_true (columns && actions) outlines (left_true (columns && actions && outlines) conditions h)))
 
 -- ---- places
-
-counted : (m : Option ℕ) (n : ℕ) → is_count m n ≡ true → m ≡ Some n
-counted None n h = absurd cc
-counted (Some m) n h = ap Some (eqb-true m n h)
 
 pub variables-there : (object : Object) (p : ℕ) (vs : List ℤ) → is_placed object (In p vs) ≡ true → variables_at object p ≡ Some (length vs)
 variables-there object p vs h = counted (variables_at object p) (length vs) h
@@ -119,10 +108,7 @@ same-count object s s' vs new (Return us) k q (e, f, is) = absurd (cc is)
 
 all-true : {A : Type 0} (p : A → Bool) (xs : List A) → Every (λ x. p x ≡ true) xs → list_all p xs ≡ true
 all-true p [] h = refl
-all-true p (x ∷ xs) h = both_true (p x) (list_all p xs) h.0 (all-true p xs h.1)
-
-is-below : (k n : ℕ) → k < n → nat_lt k n ≡ true
-is-below k n h = grind (arith, nat_tests)
+all-true p (x ∷ xs) h = and_from (p x) (list_all p xs) h.0 (all-true p xs h.1)
 
 module _ (columns n : ℕ) where
   marking-seen : (k : Marking) → IsMarkingScoped columns n k → marking_is_evaluable columns n k ≡ true
@@ -131,18 +117,18 @@ module _ (columns n : ℕ) where
   marking-seen Note h = refl
 
   deed-seen : (d : Deed) → IsDeedScoped columns n d → deed_is_evaluable columns n d ≡ true
-  deed-seen (Assign u) h = both_true _ _ (is-below u.column columns h.column) (both_true _ _ h.index h.value)
-  deed-seen (Marks k by) h = both_true _ _ (all-true (term_passes (known columns n)) (given_in by) h.1) (marking-seen k h.0)
+  deed-seen (Assign u) h = and_from _ _ (test_from_below u.column columns h.column) (and_from _ _ h.index h.value)
+  deed-seen (Marks k by) h = and_from _ _ (all-true (term_passes (known columns n)) (given_in by) h.1) (marking-seen k h.0)
 
   condition-seen : (f : Option Formula) → IsConditionResolved f → IsConditionScoped columns n f → condition_is_evaluable columns n f ≡ true
   condition-seen None plain scoped = refl
-  condition-seen (Some f) plain scoped = both_true (is_ground f) (is_known columns n f) plain (scoped_known columns n f plain scoped)
+  condition-seen (Some f) plain scoped = and_from (is_ground f) (is_known columns n f) plain (scoped_known columns n f plain scoped)
 
   riders-seen : (D : Development) (o : ℕ) (rs : List Rider) → Every (IsRiderResolved D o) rs → Every (IsRiderScoped columns n) rs → list_all (rider_is_evaluable columns n) rs ≡ true
   riders-seen D o [] h s = refl
   riders-seen D o (r ∷ rs) h s =
-      both_true (rider_is_evaluable columns n r) (list_all (rider_is_evaluable columns n) rs)
-      (both_true (condition_is_evaluable columns n r.condition) (deed_is_evaluable columns n r.deed) (condition-seen r.condition h.0.0 s.0.0) (deed-seen r.deed s.0.1))
+      and_from (rider_is_evaluable columns n r) (list_all (rider_is_evaluable columns n) rs)
+      (and_from (condition_is_evaluable columns n r.condition) (deed_is_evaluable columns n r.deed) (condition-seen r.condition h.0.0 s.0.0) (deed-seen r.deed s.0.1))
       (riders-seen D o rs h.1 s.1)
 
   -- what is done at an edge, if anything is

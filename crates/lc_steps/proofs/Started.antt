@@ -1,7 +1,7 @@
 -- The columns of a development at first.
-use Rattle.std.proofs.Common.{◌≡◌, ℕ, zero, suc, ◌+◌, List, [], ◌∷◌, ◌++◌, ℤ, pos, ◌+ℤ◌, map, length, replicate, refl, ap, ap₂, sym, ◌∙◌, arith, append_assoc}
+use Rattle.std.proofs.Common.{◌≡◌, ℕ, zero, suc, ◌+◌, List, [], ◌∷◌, ◌++◌, ℤ, pos, ◌+ℤ◌, map, length, replicate, refl, ap, ap₂, ◌∙◌, arith, append_assoc}
 use Rattle.std.proofs.Math.IntN.{zero-*ℤ}
-use Rattle.std.proofs.lemmas.List.{length-append, length-map, length-replicate}
+use Rattle.std.proofs.lemmas.List.{length-append, length-replicate}
 use mathlib.Core.Path.{fun_ext}
 use Rattle.std.specs.Prelude.{IfOk, Result, Ok, Err}
 use Rattle.lc_base.specs.declared.memory.OutOfMemory.{OutOfMemory}
@@ -11,6 +11,7 @@ use Rattle.lc_term.specs.SystemColumns.{column_count}
 use Rattle.lc_seq.specs.Specification as Q
 use Rattle.lc_object.specs.Syntax as O
 use Rattle.lc_outline.specs.Development.{Development, first_system, start_numbers}
+use Rattle.lc_sound.proofs.Ordered.{start_count}
 
 at_zero : (k c : ℕ) (i : ℤ) → column_at (initial_columns (replicate k (pos 0, pos 0))) c i ≡ pos 0
 at_zero zero c i = refl
@@ -22,13 +23,6 @@ behind : (ns : List (ℤ × ℤ)) (k c : ℕ) (i : ℤ) → column_at (initial_c
 behind [] k c i = at_zero k c i
 behind (n ∷ ns) k zero i = refl
 behind (n ∷ ns) k (suc c) i = behind ns k c i
-
-start-count : (D : Development) → length (start_numbers D) ≡ first_system D
-start-count D =
-    length-append (map (λ (c : Q.Column). (c.slope, c.start)) D.specification.columns) (map (λ (c : O.Column). (c.slope, c.start)) D.object.concretes ++ map (λ (c : Q.Column). (c.slope, c.start)) D.auxiliaries)
-    ∙ ap₂ (λ a b. a + b) (length-map D.specification.columns (λ (c : Q.Column). (c.slope, c.start)))
-    (length-append (map (λ (c : O.Column). (c.slope, c.start)) D.object.concretes) (map (λ (c : Q.Column). (c.slope, c.start)) D.auxiliaries)
-    ∙ ap₂ (λ a b. a + b) (length-map D.object.concretes (λ (c : O.Column). (c.slope, c.start))) (length-map D.auxiliaries (λ (c : Q.Column). (c.slope, c.start))))
 
 -- the numbers of all columns, as they are put together
 numbers-are : (D : Development) (items : List (ℤ × ℤ)) →
@@ -45,7 +39,7 @@ initial_state_of_items D items is =
     let none : ℤ × ℤ = (pos 0, pos 0) in
     let all = numbers-are D items is in (
       ap initial_state all ∙ fun_ext (λ c. fun_ext (λ i. behind (start_numbers D) 12 c i)),
-      ap length all ∙ (length-append (start_numbers D) (replicate 12 none) ∙ (ap₂ (λ a b. a + b) (start-count D) (length-replicate 12 none) ∙ omega arith)),
+      ap length all ∙ (length-append (start_numbers D) (replicate 12 none) ∙ (ap₂ (λ a b. a + b) (start_count D) (length-replicate 12 none) ∙ omega arith)),
     )
 
 pub started-as : (D : Development) (items : List (ℤ × ℤ)) (r : Result State OutOfMemory) →

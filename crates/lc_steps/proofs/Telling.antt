@@ -1,17 +1,18 @@
 -- Instrumented steps, from what an instruction and the riders beside its edge do.
-use Rattle.std.proofs.Common.{◌≡◌, ℕ, ◌<◌, List, ℤ, Bool, true, false, cond, Option, Some, None, refl, sym, ap, subst, ◌∙◌, length}
+use Rattle.std.proofs.Common.{◌≡◌, ℕ, List, ℤ, Bool, true, false, cond, Option, Some, None, refl, sym, ap, subst, ◌∙◌}
 use Rattle.std.specs.Prelude.{slice_get}
 use Rattle.std.proofs.lemmas.Bool.{false≢true}
 use Rattle.std.proofs.lemmas.Option.{same_Some}
+use Rattle.lc_lemmas.proofs.Lists.{set_there}
 use Rattle.lc_term.specs.Lists.{Every}
 use Rattle.lc_term.specs.Meaning.{State}
 use Rattle.lc_term.specs.Updates.{stored_all, variable}
 use Rattle.lc_object.specs.Places.{operation_at}
-use Rattle.lc_object.specs.Syntax.{Instr, Object, Point}
+use Rattle.lc_object.specs.Syntax.{Instr}
 use Rattle.lc_object.specs.declared.instr.EdgeKind.{EdgeKind}
 use Rattle.lc_object.specs.declared.instr.EdgeKind.TheVariants.{Next}
 use Rattle.lc_machine.specs.Step.{Moved, Returned, Steps, IsRunning, IsClient, Does, Outcome, Goes, Answers, after}
-use Rattle.lc_machine.specs.World.{World, Client, Idle, In}
+use Rattle.lc_machine.specs.World.{World, Idle, In}
 use Rattle.lc_outline.specs.Development.{Development, first_system, riders_at}
 use Rattle.lc_rider.specs.Rider.{Mark, Rider, RideAll, IsJustified, return_writes}
 use Rattle.lc_ride.specs.RideLaws.{IsOpen, RidersAreDone}
@@ -20,9 +21,8 @@ use Rattle.lc_sound.specs.Instrumented.{Instrumented}
 use Rattle.lc_steps.specs.Replies.{is_justified}
 use Rattle.lc_steps.specs.Stepping.{world_with, IsUnlawful, ridden, answered, done_behind}
 use Rattle.lc_steps.specs.StepParts.{rider_edge, event_of, reached}
-use Rattle.lc_steps.proofs.Elements.{put_there}
-use Rattle.lc_steps.proofs.Once.{same-done}
 use Rattle.lc_steps.proofs.Replying.{justified-to, justified-from}
+use Rattle.lc_sound.proofs.Once.{same_done}
 
 -- no quantifier occurs in the conditions of the riders there
 abbrev pub AreOpen : Development → ℕ → EdgeKind → Type 0
@@ -46,7 +46,7 @@ none-some x r e f = absurd (is-some (sym e ∙ f))
 
 module _ (agree : RidersAreDone) (D : Development) (w : World) (c p q : ℕ) (vs new : List ℤ) (i : Instr) (k : EdgeKind) (s : State) (running : IsRunning D.object w c p vs i) (does : Does D.object w.columns vs i k s (Goes q new)) (plain : AreOpen D p k) where
   there : IsClient (after w s c (In q new)) c (In q new)
-  there = put_there w.clients c (In q new) (In p vs) running.client
+  there = set_there w.clients c (In q new) (In p vs) running.client
 
   bare-move : Steps D.object w c (Moved p k) (after w s c (In q new))
   bare-move = (vs, i, running, s, q, new, does, refl)
@@ -56,8 +56,8 @@ module _ (agree : RidersAreDone) (D : Development) (w : World) (c p q : ℕ) (vs
 
   refused : ridden D c p k new s ≡ None → (marks : List Mark) (v : World) → Instrumented D w c (Moved p k) marks v → ⊥
   refused none marks v (mid', q', new', m', (vs', i', running', s', next', after', does', mid-is), isc, ride, v-is) =
-      let did = same-done D.object w c p p vs vs' i i' k k s s' (Goes q new) (Goes next' after') running running' does does' in
-      let back = put_there w.clients c (In next' after') (In p vs) running.client in
+      let did = same_done D.object w c p p vs vs' i i' k k s s' (Goes q new) (Goes next' after') running running' does does' in
+      let back = set_there w.clients c (In next' after') (In p vs) running.client in
       let variables : In next' after' ≡ In q' new' = same_Some (In next' after') (In q' new') (sym (ap (λ (x : World). slice_get x.clients c) mid-is ∙ back) ∙ isc) in
       let one : after' ≡ new' = cc variables in
       let two : new ≡ after' = cc did.2 in
@@ -79,7 +79,7 @@ module _ (agree : RidersAreDone) (D : Development) (w : World) (c p : ℕ) (vs n
   -- what such a step comes to is what riders and return are computed to come to
   computed : (marks : List Mark) (v : World) → Instrumented D w c (Returned numbers) marks v → (r : Ridden) × (ridden D c p Next vs s ≡ Some r) × IsJustified (first_system D) r.1 c numbers
   computed marks v (mid, p', vs', m, isc, (p2, vs2, i2, running2, k2, s2, does2, mid-is), ride, just, v-is) =
-      let did = same-done D.object w c p p2 vs vs2 i i2 k k2 s s2 (Answers numbers) (Answers numbers) running running2 does does2 in
+      let did = same_done D.object w c p p2 vs vs2 i i2 k k2 s s2 (Answers numbers) (Answers numbers) running running2 does does2 in
       let client : In p' vs' ≡ In p vs = same_Some (In p' vs') (In p vs) (sym isc ∙ running.client) in
       let point : p' ≡ p = cc client in
       let same : vs' ≡ vs = cc client in

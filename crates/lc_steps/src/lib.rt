@@ -11,6 +11,6 @@ mod steps;
 
 pub use advancing::advance;
 pub use beginning::begin;
-pub use lookup::{body_of, client_at};
+pub use lookup::{body_of, client_at, operation_at, riders_at, system_columns};
 pub use starting::start;
 pub use steps::{Step, What};

@@ -39,7 +39,7 @@ fn declared_columns(development: &Development) -> usize
 }
 
 /// The system columns, after the columns that are declared.
-pub(crate) fn system_columns(development: &Development) -> SystemColumns
+pub fn system_columns(development: &Development) -> SystemColumns
     ensures { first_of result ≡ first_system (development_view development.now) }
 {
     match SystemColumns::new(ColId(declared_columns(development) as u32)) {
@@ -59,14 +59,14 @@ fn riders_in(on: Option<&On>) -> &[Rider]
 }
 
 /// The riders beside the edge of this kind of a point.
-pub(crate) fn riders_at(development: &Development, point: PointId, kind: EdgeKind) -> &[Rider]
+pub fn riders_at(development: &Development, point: PointId, kind: EdgeKind) -> &[Rider]
     ensures { riders_of result.now ≡ riders_at (development_view development.now) point.0 kind }
 {
     riders_in(on_at(development, point, kind))
 }
 
 /// The operation whose body a point is in.
-pub(crate) fn operation_at(development: &Development, point: PointId) -> OpId
+pub fn operation_at(development: &Development, point: PointId) -> OpId
     ensures { result.0 ≡ operation_at (development_view development.now).object point.0 }
 {
     match development
@@ -97,7 +97,7 @@ pub fn body_of(development: &Development, operation: OpId) -> Option<&Operation>
 }
 
 /// The client of this number, if there is one.
-#[tactic(auto, using(crate::proofs::Elements::viewed_at))]
+#[tactic(auto, using(lc_lemmas::proofs::Lists::viewed_at))]
 pub fn client_at(clients: &[Client], client: u32) -> Option<&Client>
     ensures { MatchOption result (length (clients_of clients.now) ≤ client) (λ found. slice_get (clients_of clients.now) client ≡ Some (client_of found.now)) }
 {

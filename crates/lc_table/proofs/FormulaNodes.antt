@@ -4,6 +4,7 @@ use Rattle.std.specs.Cmp.Lexicographic.{pointwise}
 use Rattle.std.proofs.lemmas.Bool.Decides.{Decides-eqb}
 use Rattle.std.proofs.lemmas.Slice.Eq.{slice_eq-Decides}
 use Rattle.std.specs.Bool.{Decides}
+use Rattle.lc_lemmas.proofs.Lists.{kept_left}
 use Rattle.lc_term.specs.Syntax as S
 use Rattle.lc_table.specs.declared.node.FormulaNode.{FormulaNode}
 use Rattle.lc_table.specs.declared.node.FormulaNode.TheVariants.{Le, Eq, Not, And, Or, Implies, Forall, Exists}
@@ -12,7 +13,6 @@ use Rattle.lc_table.specs.contracts.node.FormulaNodePartialEq.TheImpl.{eq-value}
 use Rattle.lc_table.specs.Rows.{AreDistinct}
 use Rattle.lc_table.specs.Nodes.{Part, tree_of, TreeFits, term_in, formula_in, formulas_in, as_formula, IsFormula, AreFormulas, AllBelow, PartsBelow}
 use Rattle.std.proofs.lemmas.Option.{slice_get_within}
-use Rattle.lc_table.proofs.Rows.{kept_left}
 use Rattle.lc_table.proofs.TermNodes.{same_term}
 
 abbrev pub formula_node_eq : FormulaNode → FormulaNode → Bool

@@ -1,6 +1,7 @@
 -- Numbers in later tables.
-use Rattle.std.proofs.Common.{◌≡◌, ◌++◌, List, [], ◌∷◌, subst, slice_get, is_some, sym, ap, ◌∙◌, append_assoc, append-nil}
+use Rattle.std.proofs.Common.{◌≡◌, ◌++◌, List, [], ◌∷◌, subst, true, slice_get, is_some, sym, ap, ◌∙◌, append_assoc, append-nil}
 use Rattle.std.proofs.lemmas.List.{map-append}
+use Rattle.lc_lemmas.proofs.Lists.{kept_left}
 use Rattle.lc_term.specs.Syntax as S
 use Rattle.lc_table.specs.declared.node.TermId.{TermId}
 use Rattle.lc_table.specs.declared.node.ColExprId.{ColExprId}
@@ -9,9 +10,8 @@ use Rattle.lc_table.specs.NodeTables.{Table}
 use Rattle.lc_table.specs.Rows.{Extends}
 use Rattle.lc_table.specs.Nodes.{as_term, as_column, as_formula, is_term, is_column, AreFormulas as AreFormulasIn, formulas_in as formulas_among}
 use Rattle.lc_table.specs.Tables.{parts, formulas, term_in, column_in, formula_in, HasTerm, HasColumn, HasFormula, IsTerm, IsColumn, IsFormula, AreFormulas, formulas_in, Keeps}
-use Rattle.lc_table.proofs.Rows.{kept_left}
 use Rattle.lc_table.proofs.FormulaNodes.{formula-there, are_formulas-kept, formulas-kept}
-use Rattle.lc_table.proofs.TermNodes.{term-there}
+use Rattle.lc_table.proofs.TermNodes.{term-there, column-there}
 
 pub term_later : (old new : Table) (k : TermId) (t : S.Term) → HasTerm old k t → Keeps old new → HasTerm new k t
 term_later old new k t h kept = ap (λ l. slice_get l k.0) kept.parts_kept.1 ∙ kept_left (parts old) kept.parts_kept.0 k.0 _ h
@@ -88,3 +88,12 @@ formulas_pushed old new ks k f h kept at =
 
 pub formula_has : (t : Table) (k : FormulaId) → IsFormula t k → HasFormula t k (formula_in t k)
 formula_has t k h = formula-there (formulas t) k h
+
+pub term_stands : (ts : Table) (k : TermId) → IsTerm ts k → is_some (slice_get (parts ts) k.0) ≡ true
+term_stands ts k h = ap is_some (term-there (parts ts) k h)
+
+pub is_column_still : (old new : Table) (k : ColExprId) → IsColumn old k → Keeps old new → IsColumn new k
+is_column_still old new k h kept = is_column_later old new k _ (column-there (parts old) k h) kept
+
+pub column_still : (old new : Table) (k : ColExprId) → IsColumn old k → Keeps old new → column_in new k ≡ column_in old k
+column_still old new k h kept = column_is new k _ (column_later old new k _ (column-there (parts old) k h) kept)

@@ -1,63 +1,18 @@
 -- One node more in a table of nodes, whatever the nodes are.
-use Rattle.std.proofs.Common.{true≢false, ◌||◌, if◌then◌else◌, ◌≡◌, ◌⊎◌, inl, inr, eqb, Bool, true, false, ℕ, zero, suc, ◌+◌, ◌<◌, ◌≤◌, List, [], ◌∷◌, ◌++◌, length, slice_get, Some, refl, sym, ap, ◌∙◌, subst, arith, length-append, append_assoc, append-nil}
-use Rattle.std.proofs.lemmas.Option.{slice_get_within, get_or_from_slice_get, slice_get-get_or}
-use Rattle.std.proofs.lemmas.List.{get_or_append_left}
-use Rattle.std.proofs.Math.Seq.{get_or-append_seam}
-use Rattle.std.proofs.lemmas.Bool.Decides.{nat_tests}
-use borrow.Author.Tests.{eqb-true}
+use Rattle.std.proofs.Common.{true≢false, if◌then◌else◌, ◌≡◌, inl, inr, Bool, true, false, ℕ, zero, suc, ◌+◌, ◌<◌, List, [], ◌∷◌, ◌++◌, length, slice_get, Some, refl, sym, ap, ◌∙◌, subst, arith, length-append, append_assoc, append-nil}
+use Rattle.std.proofs.lemmas.Option.{slice_get_within, same_Some}
+use Rattle.std.proofs.lemmas.Map.Keys.{any_passes_from_place}
 use Rattle.std.specs.List.{list_any}
 use Rattle.indexmap.specs.IndexSet.{insert_key}
+use Rattle.lc_lemmas.proofs.Lists.{kept_left, get_last, get_in_longer, element_within}
 use Rattle.lc_table.specs.Rows.{grow, trees, Built, AreDistinct, IsTable, Extends}
-
--- an element stays at its place
-pub kept_left : {T : Type 0} (xs ys : List T) (k : ℕ) (t : T) → slice_get xs k ≡ Some t → slice_get (xs ++ ys) k ≡ Some t
-kept_left xs ys k t h =
-    let lt : k < length xs = slice_get_within xs k t h in
-    slice_get-get_or (xs ++ ys) k t (omega (arith, length-append xs ys)) ∙ ap Some (get_or_append_left xs ys t k lt ∙ get_or_from_slice_get xs k t t h)
-
-at_end : {T : Type 0} (ts : List T) (t : T) → slice_get (ts ++ t ∷ []) (length ts) ≡ Some t
-at_end ts t = slice_get-get_or (ts ++ t ∷ []) (length ts) t (omega (arith, length-append ts (t ∷ []))) ∙ ap Some (get_or-append_seam ts t [] t)
-
-some_same : {T : Type 0} (x y : T) → Some x ≡ Some y → x ≡ y
-some_same x y e = cc
-
-below_or_here : (j k : ℕ) → k ≤ j → (j ≡ k) ⊎ (k + 1 ≤ j)
-below_or_here j k le = elim (eqb j k) as (λ b. eqb j k ≡ b → (j ≡ k) ⊎ (k + 1 ≤ j)) [
-  | true ↦ λ e. inl (eqb-true j k e)
-  | false ↦ λ e. inr (grind (arith, nat_tests))
-] refl
-
--- the place of an element of a longer list
-place : {T : Type 0} (ts : List T) (x : T) (i : ℕ) (t : T) → slice_get (ts ++ x ∷ []) i ≡ Some t → (slice_get ts i ≡ Some t) ⊎ ((i ≡ length ts) × (t ≡ x))
-place ts x i t h =
-    let lt = slice_get_within (ts ++ x ∷ []) i t h in
-    let le : i < length ts + 1 = omega (arith, length-append ts (x ∷ [])) in
-    elim (below_or_here (length ts) i (omega arith)) [
-      | inl e ↦ inr (sym e, some_same _ _ (sym h ∙ ap (slice_get (ts ++ x ∷ [])) (sym e) ∙ at_end ts x))
-      | inr more ↦ inl (slice_get-get_or ts i t (omega arith) ∙ ap Some (sym (get_or_append_left ts (x ∷ []) t i (omega arith)) ∙ get_or_from_slice_get (ts ++ x ∷ []) i t t h))
-    ]
 
 pub distinct-push : {T : Type 0} (ts : List T) (x : T) → AreDistinct ts → ((j : ℕ) → slice_get ts j ≡ Some x → ⊥) → AreDistinct (ts ++ x ∷ [])
 distinct-push ts x d fresh i j t at_i at_j =
-    elim (place ts x i t at_i) [
-      | inl a ↦ elim (place ts x j t at_j) [ inl b ↦ d i j t a b | inr b ↦ absurd (fresh i (a ∙ ap Some b.1)) ]
-      | inr a ↦ elim (place ts x j t at_j) [ inl b ↦ absurd (fresh j (b ∙ ap Some a.1)) | inr b ↦ a.0 ∙ sym b.0 ]
+    elim (get_in_longer ts x i t at_i) [
+      | inl a ↦ elim (get_in_longer ts x j t at_j) [ inl b ↦ d i j t a b | inr b ↦ absurd (fresh i (a ∙ ap Some b.1)) ]
+      | inr a ↦ elim (get_in_longer ts x j t at_j) [ inl b ↦ absurd (fresh j (b ∙ ap Some a.1)) | inr b ↦ a.0 ∙ sym b.0 ]
     ]
-
-or_right : (a b : Bool) → b ≡ true → (a || b) ≡ true
-or_right true b e = refl
-or_right false b e = e
-
-any-at : {N : Type 0} (p : N → Bool) (xs : List N) (j : ℕ) (x : N) → slice_get xs j ≡ Some x → p x ≡ true → list_any p xs ≡ true
-any-at p [] j x h is = absurd (omega (arith, slice_get_within [] j x h))
-any-at p (y ∷ ys) zero x h is = let e : y ≡ x = some_same y x h in rw (e, is) refl
-any-at p (y ∷ ys) (suc j) x h is = or_right (p y) _ (any-at p ys j x h is)
-
--- the element at a place within a list
-pub element_at_place : {N : Type 0} (xs : List N) (j : ℕ) → j < length xs → (x : N) × (slice_get xs j ≡ Some x)
-element_at_place [] j lt = absurd (omega (arith, lt))
-element_at_place (x ∷ xs) zero lt = (x, refl)
-element_at_place (x ∷ xs) (suc j) lt = let e = element_at_place xs j (omega (arith, lt)) in (e.0, e.1)
 
 module _ {N T : Type 0} (build : List T → N → T) (Fits : List T → N → Type 0)
     (build-kept : (ts us : List T) (n : N) → Fits ts n → build (ts ++ us) n ≡ build ts n)
@@ -88,11 +43,11 @@ module _ {N T : Type 0} (build : List T → N → T) (Fits : List T → N → Ty
   stands : (ts : List T) (ns : List N) (i : ℕ) (n : N) → Built build Fits ts ns → slice_get ns i ≡ Some n → Stands (grow build ts ns) (length ts + i) n
   stands ts [] i n all h = absurd (omega (arith, slice_get_within [] i n h))
   stands ts (m ∷ ns) zero n all h =
-      let same : m ≡ n = some_same m n h in
+      let same : m ≡ n = same_Some m n h in
       let us = grow build ts (m ∷ ns) in
       let e = grow-extends ts (m ∷ ns) in
       let x = grow-extends (ts ++ build ts m ∷ []) ns in
-      let here : slice_get us (length ts) ≡ Some (build ts m) = ap (λ l. slice_get l (length ts)) x.1 ∙ kept_left _ x.0 (length ts) _ (at_end ts (build ts m)) in
+      let here : slice_get us (length ts) ≡ Some (build ts m) = ap (λ l. slice_get l (length ts)) x.1 ∙ kept_left _ x.0 (length ts) _ (get_last ts (build ts m)) in
       let now : build us m ≡ build ts m = ap (λ l. build l m) e.1 ∙ build-kept ts e.0 m all.0 in
       let z : length ts + 0 ≡ length ts = omega arith in
       (ap (slice_get us) z ∙ here ∙ ap Some (sym now ∙ ap (build us) same), subst (Fits us) same (subst (λ l. Fits l m) (sym e.1) (fits-kept ts e.0 m all.0)))
@@ -107,7 +62,7 @@ module _ {N T : Type 0} (build : List T → N → T) (Fits : List T → N → Ty
   -- the trees that stood before node i
   pub before : (ts : List T) (ns : List N) (i : ℕ) (n : N) → Built build Fits ts ns → slice_get ns i ≡ Some n → (us : List T) × (length us ≡ length ts + i) × Fits us n
   before ts [] i n all h = absurd (omega (arith, slice_get_within [] i n h))
-  before ts (m ∷ ns) zero n all h = (ts, omega arith, subst (Fits ts) (some_same m n h) all.0)
+  before ts (m ∷ ns) zero n all h = (ts, omega arith, subst (Fits ts) (same_Some m n h) all.0)
   before ts (m ∷ ns) (suc i) n all h =
       let r = before (ts ++ build ts m ∷ []) ns i n all.1 h in
       (r.0, let e = r.1 in omega (arith, length-append ts (build ts m ∷ [])), r.2)
@@ -139,11 +94,11 @@ module _ {N T : Type 0} (build : List T → N → T) (Fits : List T → N → Ty
         → (j : ℕ) → slice_get (trees build ns) j ≡ Some (build (trees build ns) n) → ⊥
     fresh ns n ok fits none j h =
         let lt : j < length ns = omega (arith, slice_get_within (trees build ns) j _ h, length-trees ns) in
-        let at = element_at_place ns j lt in
+        let at = element_within ns j lt in
         let s = stands-at ns j at.0 ok.built at.1 in
-        let same = some_same _ _ (sym h ∙ s.0) in
+        let same = same_Some _ _ (sym h ∙ s.0) in
         let is = eq-from (trees build ns) n at.0 ok.distinct fits s.1 same in
-        absurd (true≢false (sym (any-at (eq n) ns j at.0 at.1 is) ∙ none))
+        absurd (true≢false (sym (any_passes_from_place (eq n) ns j at.0 at.1 is) ∙ none))
 
     pub entered : (ns ms : List N) (n m : N) (k : ℕ) → IsTable build Fits ns → Fits (trees build ns) n → ms ≡ insert_key eq ns n
         → slice_get ms k ≡ Some m → eq n m ≡ true → Entered ns ms n k

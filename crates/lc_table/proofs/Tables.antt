@@ -1,6 +1,7 @@
 -- One node more in a table of terms.
 use Rattle.std.proofs.Common.{◌≡◌, ℕ, true, List, [], ◌∷◌, ◌++◌, slice_get, Option, Some, None, refl, sym, ap, ap₂, ◌∙◌, subst, append-nil, is_some, length, ◌+◌, ◌<◌, arith}
 use Rattle.indexmap.specs.IndexSet.{insert_key}
+use Rattle.lc_lemmas.proofs.Lists.{element_within}
 use Rattle.lc_term.specs.Syntax as S
 use Rattle.lc_table.specs.declared.node.TermNode.{TermNode}
 use Rattle.lc_table.specs.declared.node.FormulaNode.{FormulaNode}
@@ -126,7 +127,7 @@ formula_node_at now ns xs k view ok there = subst (λ t. is_some (slice_get (for
     by None e h =
         let there = formula-there (formulas_of ns xs) (record { 0 = k }) h in
         let lt : k < length xs = omega (arith, slice_get_within (formulas_of ns xs) k _ there, rows.length-trees (tree_of (parts_of ns)) (TreeFits (parts_of ns)) (tree-kept (parts_of ns)) (tree_fits-kept (parts_of ns)) xs) in
-        let at = rows.element_at_place xs k lt in
+        let at = element_within xs k lt in
         absurd (none_some at.0 (sym e ∙ at.1))
 
 pub same_number : (now : Table) (ns : List TermNode) (xs : List FormulaNode) (a b : FormulaId) → record { terms = ns; formulas = xs } ≡ now → IsNodeTable ns xs
@@ -154,7 +155,7 @@ part_node_at now ns xs k view ok there = subst (λ t. is_some (slice_get (parts 
     by None e h =
         let there = some-there (slice_get (parts_of ns) k) h in
         let lt : k < length ns = omega (arith, slice_get_within (parts_of ns) k _ there.1, rows.length-trees part_of PartFits part-kept part_fits-kept ns) in
-        let at = rows.element_at_place ns k lt in
+        let at = element_within ns k lt in
         absurd (no_term_node at.0 (sym e ∙ at.1))
 
 -- how many entries there are

@@ -1,5 +1,6 @@
 -- What a node of a term stands for.
 use Rattle.std.proofs.Common.{◌≡◌, rules, tests, Bool, true, ℕ, List, ◌++◌, slice_get, Option, Some, None, is_some, length, ◌<◌, refl, sym, ap, ◌∙◌, subst}
+use Rattle.lc_lemmas.proofs.Lists.{kept_left}
 use Rattle.lc_table.specs.declared.node.TermNode.{TermNode}
 use Rattle.lc_table.specs.declared.node.TermNode.TheVariants.{Number, Variable, Bound, Add, Subtract, Multiply, Read, Base, Store, Affine}
 use Rattle.lc_table.specs.declared.node.TermId.{TermId}
@@ -8,7 +9,6 @@ use Rattle.lc_table.specs.contracts.node.TermNodePartialEq.TheImpl.{eq-value}
 use Rattle.lc_table.specs.Rows.{AreDistinct}
 use Rattle.lc_table.specs.Nodes.{Part, term, column, part_of, PartFits, PartBelow, term_in, column_in, as_term, as_column, is_term, is_column, IsTerm, IsColumn}
 use Rattle.std.proofs.lemmas.Option.{slice_get_within}
-use Rattle.lc_table.proofs.Rows.{kept_left}
 
 abbrev pub node_eq : TermNode → TermNode → Bool
 node_eq = eq-value.it

@@ -1,13 +1,6 @@
-pub mod Copies
-pub mod Deep
-pub mod Filling
 pub mod Near
 pub mod NodeChains
-pub mod NodeClosed
-pub mod NodeReplacement
 pub mod NodeTables
 pub mod Nodes
-pub mod Put
-pub mod PutNumbers
 pub mod Rows
 pub mod Tables

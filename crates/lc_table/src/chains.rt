@@ -6,29 +6,21 @@ ghost use Rattle.lc_table.specs.Tables.{column_in, IsColumn};
 
 use crate::near::NearMap;
 use crate::node::{ColExprId, TermNode};
-use crate::put::{Occurrence, ReplacedNodes};
 use crate::table::Terms;
 use lc_base::OutOfMemory;
 use std::alloc::Global;
 
-/// A column expression in parts: what is stored to, which is no store, and the stores, the outermost first.
+/// A chain, as far as it is not known already what becomes of it: what is known to become of the base, if that is.
 #[derive(Drop)]
-pub struct NodeChain {
+pub struct Waiting {
     pub base: ColExprId,
+    pub known: Option<u32>,
     pub stores: Vec<ColExprId>,
 }
 
-/// A chain, as far as it is not known already what becomes of it: what is known to become of the base, if that is.
-#[derive(Drop)]
-pub(crate) struct Waiting {
-    pub(crate) base: ColExprId,
-    pub(crate) known: Option<u32>,
-    pub(crate) stores: Vec<ColExprId>,
-}
-
 impl Waiting {
-    // What is below the stores; what is no store stays as it is.
-    pub(crate) fn below(&self) -> ColExprId
+    /// What is below the stores; what is no store stays as it is.
+    pub fn below(&self) -> ColExprId
         ensures known { IfSome self.now.known (λ number. result.0 ≡ number) }
         ensures base { self.now.known ≡ None → result.0 ≡ self.now.base.0 }
     {
@@ -40,12 +32,12 @@ impl Waiting {
 }
 
 /// Of terms and column expressions of a table, what is known already to become of them.
-pub(crate) trait KnownParts {
+pub trait KnownParts {
     ghost use Rattle.std.specs.Prelude.{ℕ, IfSome};
 
     ghost Becomes: { Self → ℕ → ℕ → Type 0 };
 
-    // The number of what becomes of a part, if it is known.
+    /// The number of what becomes of a part, if it is known.
     fn known(&self, part: u32) -> Option<u32>
         ensures { IfSome result (Becomes self.now part) };
 }
@@ -61,57 +53,9 @@ impl KnownParts for NearMap<u32, u32> {
     }
 }
 
-/// What is replaced already below `depth` quantifiers.
-#[derive(Clone, Copy)]
-pub(crate) struct ReplacedBelow<'a> {
-    pub(crate) done: &'a ReplacedNodes,
-    pub(crate) depth: u32,
-}
-
-impl KnownParts for ReplacedBelow<'_> {
-    ghost use Rattle.std.specs.Prelude.{◌≡◌, Some};
-    ghost use Rattle.std.specs.Map.{lookup};
-    ghost use Rattle.lc_table.specs.Put.{occurrence_eq};
-
-    ghost Becomes = { λ below part number. lookup (occurrence_eq (record { number = part; depth = below.depth })) below.done.now.parts.entries ≡ Some number };
-
-    fn known(&self, part: u32) -> Option<u32> {
-        let occurrence = Occurrence {
-            number: part,
-            depth: self.depth,
-        };
-        self.done.part(occurrence, false)
-    }
-}
-
 impl Terms {
-    /// A column expression in parts.
-    pub fn chain(&self, alloc: Global, column: ColExprId) -> Result<NodeChain, OutOfMemory>
-        requires { IsColumn self.now column }
-        ensures stores { IfOk result (λ chain. AreStores self.now column.0 (column_in self.now column) chain.stores.items) }
-        ensures below { IfOk result (λ chain. below_stores (column_in self.now column) chain.stores.items ≡ column_in self.now chain.base) }
-        ensures is { IfOk result (λ chain. IsColumn self.now chain.base) }
-        ensures within { IfOk result (λ chain. chain.base.0 ≤ column.0) }
-        ensures base { IfOk result (λ chain. is_store (column_in self.now chain.base) ≡ false) }
-    {
-        let mut stores = Vec::new(alloc);
-        let mut base = column;
-        'stores: loop {
-            match self.column_node(base) {
-                TermNode::Store(below, _, _) => {
-                    stores.push(base)?;
-                    base = below;
-                }
-                TermNode::Base(_) | TermNode::Affine(_, _) => {
-                    return Ok(NodeChain { base, stores });
-                }
-                _ => unreachable!(),
-            }
-        }
-    }
-
-    // A column expression in parts, down to where it is known already what becomes of it.
-    pub(crate) fn chain_to_done<K: KnownParts>(
+    /// A column expression in parts, down to where it is known already what becomes of it.
+    pub fn chain_to_done<K: KnownParts>(
         &self,
         alloc: Global,
         column: ColExprId,

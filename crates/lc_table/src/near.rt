@@ -6,10 +6,10 @@ use indexmap::{IndexMap, IndexSet};
 use std::hash::{BuildHasherDefault, FoldHasher, Hasher};
 
 /// A map whose keys are made of numbers.
-pub(crate) type NearMap<K, V> = IndexMap<K, V, BuildHasherDefault<NearHasher>>;
+pub type NearMap<K, V> = IndexMap<K, V, BuildHasherDefault<NearHasher>>;
 
 /// A set of what is made of numbers.
-pub(crate) type NearSet<T> = IndexSet<T, BuildHasherDefault<NearHasher>>;
+pub type NearSet<T> = IndexSet<T, BuildHasherDefault<NearHasher>>;
 
 /// As many consecutive numbers as differ in the last bits of their hashes alone.
 const NEAR: u64 = 64;

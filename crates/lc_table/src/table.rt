@@ -73,8 +73,8 @@ impl Terms {
         }
     }
 
-    // The memory that the table has its entries in.
-    pub(crate) fn allocator(&self) -> Global {
+    /// The memory that the table has its entries in.
+    pub fn allocator(&self) -> Global {
         *self.terms.allocator()
     }
 
@@ -105,8 +105,8 @@ impl Terms {
         Ok(())
     }
 
-    // The number of a node of a term or a column expression, which is entered if it is not there.
-    pub(crate) fn enter_part(&mut self, node: TermNode) -> Result<u32, OutOfMemory>
+    /// The number of a node of a term or a column expression, which is entered if it is not there.
+    pub fn enter_part(&mut self, node: TermNode) -> Result<u32, OutOfMemory>
         requires { PartFits (parts self.old) node }
         ensures part { IfOk result (λ k. slice_get (parts self.new) k ≡ Some (part_of (parts self.old) node)) }
         ensures kept { Keeps self.old self.new }
@@ -147,8 +147,8 @@ impl Terms {
         Ok(number)
     }
 
-    // The number of a node of a formula, which is entered if it is not there.
-    pub(crate) fn enter_node(&mut self, node: FormulaNode) -> Result<u32, OutOfMemory>
+    /// The number of a node of a formula, which is entered if it is not there.
+    pub fn enter_node(&mut self, node: FormulaNode) -> Result<u32, OutOfMemory>
         requires { TreeFits (parts self.old) (formulas self.old) node }
         ensures formula { IfOk result (λ k. slice_get (formulas self.new) k ≡ Some (tree_of (parts self.old) (formulas self.old) node)) }
         ensures kept { Keeps self.old self.new }
@@ -179,8 +179,8 @@ impl Terms {
         self.next_formula.note(formula.0);
     }
 
-    // The node at a number, of a term or a column expression, if there is one.
-    pub(crate) fn part_at(&self, part: u32) -> Option<TermNode>
+    /// The node at a number, of a term or a column expression, if there is one.
+    pub fn part_at(&self, part: u32) -> Option<TermNode>
         ensures { IfSome result (λ node. slice_get (parts self.now) part ≡ Some (part_of (parts self.now) node)) }
     {
         self.terms.get_index(part as usize).copied()
@@ -196,8 +196,8 @@ impl Terms {
         }
     }
 
-    // The node at a number, of a term or a column expression.
-    pub(crate) fn part_node(&self, part: u32) -> TermNode
+    /// The node at a number, of a term or a column expression.
+    pub fn part_node(&self, part: u32) -> TermNode
         requires { is_some (slice_get (parts self.now) part) ≡ true }
         ensures tree { slice_get (parts self.now) part ≡ Some (part_of (parts self.now) result) }
         ensures fits { PartFits (parts self.now) result }

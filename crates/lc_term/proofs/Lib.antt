@@ -1,4 +1,4 @@
-mod Lists
+pub mod Lists
 pub mod Chained
 pub mod Stable
 pub mod Truth
@@ -15,7 +15,7 @@ pub mod Closed
 pub mod Agree
 mod Written
 pub mod Stores
-pub mod Tests
 pub mod Symbolic
 pub mod Depths
 pub mod Weaker
+pub mod Entries

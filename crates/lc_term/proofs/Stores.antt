@@ -1,7 +1,8 @@
 -- What stores leave.
-use Rattle.std.proofs.Common.{◌≡◌, ℕ, ◌≤◌, Bool, true, false, ◌==◌, if◌then◌else◌, List, [], ◌∷◌, ◌++◌, ℤ, length, take, refl, ap, ap₂, ◌∙◌, arith, ne_eqb, inl, inr}
+use Rattle.std.proofs.Common.{◌≡◌, ℕ, ◌≤◌, Bool, true, false, ◌==◌, if◌then◌else◌, List, [], ◌∷◌, ◌++◌, ℤ, length, take, refl, ap, ap₂, ◌∙◌, arith, ne_eqb}
 use Rattle.std.specs.Ordering.{int_eq}
-use Rattle.std.proofs.lemmas.Bool.Decides.{Decides-int_eq, eqb_tells}
+use Rattle.std.proofs.lemmas.Bool.Decides.{Decides-int_eq}
+use Rattle.lc_lemmas.proofs.Numbers.{equal_to_itself}
 use Rattle.lc_term.specs.Updates.{Write, stored_all, row, cell_writes}
 use Rattle.lc_term.specs.Meaning.{State, stored}
 use Rattle.lc_term.specs.State.{with_cell}
@@ -33,9 +34,6 @@ if_true b x y h = ap (λ c. if c then x else y) h
 pub if_false : {A : Type 0} (b : Bool) (x y : A) → b ≡ false → (if b then x else y) ≡ y
 if_false b x y h = ap (λ c. if c then x else y) h
 
-pub same_self : (c : ℕ) → (c == c) ≡ true
-same_self c = elim (eqb_tells c c) [ inl h ↦ h.0 | inr h ↦ absurd (h.1 refl) ]
-
 pub stored_here : (f : ℤ → ℤ) (i v : ℤ) → stored f i v i ≡ v
 stored_here f i v = if_true (int_eq i i) v (f i) ((Decides-int_eq i i).1 refl)
 
@@ -50,7 +48,7 @@ pub cell_other : (s : State) (c d : ℕ) (i v : ℤ) → (c ≡ d → ⊥) → w
 cell_other s c d i v h = if_false (c == d) (stored (s d) i v) (s d) (ne_eqb c d h)
 
 pub cell_same : (s : State) (c : ℕ) (i v : ℤ) → with_cell s c i v c ≡ stored (s c) i v
-cell_same s c i v = if_true (c == c) (stored (s c) i v) (s c) (same_self c)
+cell_same s c i v = if_true (c == c) (stored (s c) i v) (s c) (equal_to_itself c)
 
 pub cell_away : (s : State) (c d : ℕ) (i j v : ℤ) → (i ≡ j → ⊥) → with_cell s c i v d j ≡ s d j
 cell_away s c d i j v h = by_test (c == d) refl

@@ -1,10 +1,11 @@
 -- What passes a test passes one that asks for less.
 use Rattle.std.proofs.Common.{◌≡◌, ℕ, suc, true, ◌&&◌, refl}
+use Rattle.std.proofs.lemmas.Bool.{and_from}
+use Rattle.lc_lemmas.proofs.Booleans.{left_true, right_true}
 use Rattle.lc_term.specs.Places.{Test, term_passes, column_passes, passes, all_pass}
 use Rattle.lc_term.specs.Syntax.{Term, Number, Variable, Bound, Add, Subtract, Multiply, Read, Column, Base, Store, Affine}
 use Rattle.lc_term.specs.Syntax.{Formula, Le, Eq, Not, And, Or, Implies, Forall, Exists, Formulas, none, more}
 use Rattle.lc_term.specs.Truth.{is_ground, are_ground}
-use Rattle.lc_term.proofs.Tests.{left_true, right_true, both_true}
 
 -- whatever passes the one passes the other
 pub record IsWeaker (p q : Test) : Type 0 where
@@ -18,21 +19,21 @@ module _ (p q : Test) (w : IsWeaker p q) where
     weaker_term (Number n) h = refl
     weaker_term (Variable k) h = w.variables k h
     weaker_term (Bound k) h = w.bounds k h
-    weaker_term (Add t u) h = both_true _ _ (weaker_term t (left_true (term_passes p t) (term_passes p u) h)) (weaker_term u (right_true (term_passes p t) (term_passes p u) h))
-    weaker_term (Subtract t u) h = both_true _ _ (weaker_term t (left_true (term_passes p t) (term_passes p u) h)) (weaker_term u (right_true (term_passes p t) (term_passes p u) h))
+    weaker_term (Add t u) h = and_from _ _ (weaker_term t (left_true (term_passes p t) (term_passes p u) h)) (weaker_term u (right_true (term_passes p t) (term_passes p u) h))
+    weaker_term (Subtract t u) h = and_from _ _ (weaker_term t (left_true (term_passes p t) (term_passes p u) h)) (weaker_term u (right_true (term_passes p t) (term_passes p u) h))
     weaker_term (Multiply n t) h = weaker_term t h
-    weaker_term (Read c t) h = both_true _ _ (weaker_column c (left_true (column_passes p c) (term_passes p t) h)) (weaker_term t (right_true (column_passes p c) (term_passes p t) h))
+    weaker_term (Read c t) h = and_from _ _ (weaker_column c (left_true (column_passes p c) (term_passes p t) h)) (weaker_term t (right_true (column_passes p c) (term_passes p t) h))
 
     weaker_column : (c : Column) → column_passes p c ≡ true → column_passes q c ≡ true
     weaker_column (Base c) h = w.columns c h
     weaker_column (Store c t u) h =
         let first = left_true (column_passes p c && term_passes p t) (term_passes p u) h in
-        both_true _ _ (both_true _ _ (weaker_column c (left_true (column_passes p c) (term_passes p t) first)) (weaker_term t (right_true (column_passes p c) (term_passes p t) first)))
+        and_from _ _ (and_from _ _ (weaker_column c (left_true (column_passes p c) (term_passes p t) first)) (weaker_term t (right_true (column_passes p c) (term_passes p t) first)))
         (weaker_term u (right_true (column_passes p c && term_passes p t) (term_passes p u) h))
     weaker_column (Affine a b) h = refl
 
   weaker_pair : (t u : Term) → (term_passes p t && term_passes p u) ≡ true → (term_passes q t && term_passes q u) ≡ true
-  weaker_pair t u h = both_true _ _ (weaker_term t (left_true (term_passes p t) (term_passes p u) h)) (weaker_term u (right_true (term_passes p t) (term_passes p u) h))
+  weaker_pair t u h = and_from _ _ (weaker_term t (left_true (term_passes p t) (term_passes p u) h)) (weaker_term u (right_true (term_passes p t) (term_passes p u) h))
 
 module _ (p q : ℕ → Test) where
   -- below any number of quantifiers
@@ -44,13 +45,13 @@ module _ (p q : ℕ → Test) where
       weaker_formula n (Not f) h = weaker_formula n f h
       weaker_formula n (And fs) h = weaker_formulas n fs h
       weaker_formula n (Or fs) h = weaker_formulas n fs h
-      weaker_formula n (Implies f g) h = both_true _ _ (weaker_formula n f (left_true (passes p n f) (passes p n g) h)) (weaker_formula n g (right_true (passes p n f) (passes p n g) h))
+      weaker_formula n (Implies f g) h = and_from _ _ (weaker_formula n f (left_true (passes p n f) (passes p n g) h)) (weaker_formula n g (right_true (passes p n f) (passes p n g) h))
       weaker_formula n (Forall f) h = weaker_formula (suc n) f h
       weaker_formula n (Exists f) h = weaker_formula (suc n) f h
 
       weaker_formulas : (n : ℕ) (fs : Formulas) → all_pass p n fs ≡ true → all_pass q n fs ≡ true
       weaker_formulas n none h = refl
-      weaker_formulas n (more f fs) h = both_true _ _ (weaker_formula n f (left_true (passes p n f) (all_pass p n fs) h)) (weaker_formulas n fs (right_true (passes p n f) (all_pass p n fs) h))
+      weaker_formulas n (more f fs) h = and_from _ _ (weaker_formula n f (left_true (passes p n f) (all_pass p n fs) h)) (weaker_formulas n fs (right_true (passes p n f) (all_pass p n fs) h))
 
   -- when the formula has no quantifiers
   module _ (w : IsWeaker (p 0) (q 0)) where
@@ -62,11 +63,11 @@ module _ (p q : ℕ → Test) where
       weaker_ground (And fs) g h = weaker_ground_parts fs g h
       weaker_ground (Or fs) g h = weaker_ground_parts fs g h
       weaker_ground (Implies f k) g h =
-          both_true _ _ (weaker_ground f (left_true (is_ground f) (is_ground k) g) (left_true (passes p 0 f) (passes p 0 k) h)) (weaker_ground k (right_true (is_ground f) (is_ground k) g) (right_true (passes p 0 f) (passes p 0 k) h))
+          and_from _ _ (weaker_ground f (left_true (is_ground f) (is_ground k) g) (left_true (passes p 0 f) (passes p 0 k) h)) (weaker_ground k (right_true (is_ground f) (is_ground k) g) (right_true (passes p 0 f) (passes p 0 k) h))
       weaker_ground (Forall f) g h = absurd cc
       weaker_ground (Exists f) g h = absurd cc
 
       weaker_ground_parts : (fs : Formulas) → are_ground fs ≡ true → all_pass p 0 fs ≡ true → all_pass q 0 fs ≡ true
       weaker_ground_parts none g h = refl
       weaker_ground_parts (more f fs) g h =
-          both_true _ _ (weaker_ground f (left_true (is_ground f) (are_ground fs) g) (left_true (passes p 0 f) (all_pass p 0 fs) h)) (weaker_ground_parts fs (right_true (is_ground f) (are_ground fs) g) (right_true (passes p 0 f) (all_pass p 0 fs) h))
+          and_from _ _ (weaker_ground f (left_true (is_ground f) (are_ground fs) g) (left_true (passes p 0 f) (all_pass p 0 fs) h)) (weaker_ground_parts fs (right_true (is_ground f) (are_ground fs) g) (right_true (passes p 0 f) (all_pass p 0 fs) h))

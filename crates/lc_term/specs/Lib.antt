@@ -3,6 +3,7 @@ pub mod Chains
 pub mod Computed
 pub mod Counter
 pub mod Drafts
+pub mod Entries
 pub mod Equal
 pub mod EqualLaws
 pub mod Lists

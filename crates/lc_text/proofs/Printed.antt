@@ -28,7 +28,7 @@ pub binder_is_name : (d : ℕ) → d < 2 ^ 64 → is_name (binder d) ≡ true
 unfolding begins_name
 binder_is_name d h = continued (decimal d) (digits_decimal decimal_numeral_model d h)
 
-same_refl : (w : List ℕ) → is w w ≡ true
+pub same_refl : (w : List ℕ) → is w w ≡ true
 same_refl [] = refl
 same_refl (b ∷ w) = and_from _ _ (Rattle.std.proofs.lemmas.Bool.eq-eqb b b refl) (same_refl w)
 

@@ -15,13 +15,13 @@ use Rattle.lc_reading.specs.Readings.{Reading, fine, mapped, both, three}
 use Rattle.lc_text.proofs.Numerals.{natural_of-decimal, integer_fit-signed}
 use Rattle.lc_text.proofs.Printed.{binder_is_name, binder_is_free, binder_is_short, index_back}
 use Rattle.lc_text.specs.Formulas as F
-use Rattle.lc_text.specs.Formulas.{formula_reading, formulas_reading, only_reading, both_reading, body_reading, binder_reading, connective_reading, body_of}
+use Rattle.lc_text.specs.Formulas.{formula_reading, formulas_reading, body_reading, binder_reading, connective_reading, body_of}
 use Rattle.lc_text.specs.Heads.{built_due, connective_due, allowed}
 use Rattle.lc_text.specs.Spelling.{Spelled}
 use Rattle.lc_text.specs.Spelled.{binder, one_deeper}
 use Rattle.lc_text.specs.SpelledTree.{term_tree, column_tree, formula_tree, formula_trees, binders, TermReadsBack, ColumnReadsBack, FormulaReadsBack, FormulasReadBack}
 use Rattle.lc_text.specs.Terms as T
-use Rattle.lc_text.specs.Terms.{term_reading, column_reading, terms_reading, numbers_reading, store_reading, atom_reading, word_reading, number_reading, number_or, fit_reading, bound_or_free, pair, triple, built_reading}
+use Rattle.lc_text.specs.Terms.{term_reading, column_reading, numbers_reading, store_reading, atom_reading, word_reading, number_reading, number_or, fit_reading, bound_or_free, pair, triple, built_reading}
 use Rattle.lc_text.specs.declared.words.Built.TheVariants as B
 use Rattle.lc_text.specs.declared.words.Operation.TheVariants as O
 use Rattle.lc_text.specs.declared.words.Connective.TheVariants as C
@@ -53,7 +53,7 @@ numbered_back names bound n k allowed h =
     ∙ ap (λ v. mapped S.Variable (fit_reading n v)) (cond-true _ _ _ (le-leb k 4294967295 (omega arith)))
 
 -- parts that are read are read together
-two_back : {X Y Z : Type 0} (f : X → Y → Z) (r : Reading X) (s : Reading Y) (x : X) (y : Y) → r ≡ fine x → s ≡ fine y → both f r s ≡ fine (f x y)
+pub two_back : {X Y Z : Type 0} (f : X → Y → Z) (r : Reading X) (s : Reading Y) (x : X) (y : Y) → r ≡ fine x → s ≡ fine y → both f r s ≡ fine (f x y)
 two_back f r s x y e g = ap₂ (both f) e g
 
 three_back : (r : Reading Column) (s q : Reading Term) (c : Column) (i v : Term) → r ≡ fine c → s ≡ fine i → q ≡ fine v → three triple r s q ≡ fine (triple c i v)

@@ -2,6 +2,8 @@
 use Rattle.std.proofs.Common.{◌≡◌, ℕ, suc, ◌+◌, Bool, true, false, ◌&&◌, List, [], ◌∷◌, Option, Some, None, refl, IfSome}
 use Rattle.std.specs.Prelude.{ℤ}
 use Rattle.std.specs.List.{list_all}
+use Rattle.std.proofs.lemmas.Bool.{and_from}
+use Rattle.lc_lemmas.proofs.Booleans.{and_parts}
 use Rattle.lc_base.specs.NameText.{is_name}
 use Rattle.lc_sexp.specs.Trees.{Tree, Trees, atom, list, none, ◌▸◌, item_count}
 use Rattle.lc_sexp.specs.Parts.{Fit, fits, misshapen, beyond, integer_fit}
@@ -65,14 +67,6 @@ StoreIn allowed p = AccessIn allowed p.0 × TermIn allowed p.1
 abbrev PairIn : (ℕ → Bool) → Formula × Formula → Type 0
 PairIn allowed p = FormulaIn allowed p.0 × FormulaIn allowed p.1
 
-and_true : (a b : Bool) → a ≡ true → b ≡ true → (a && b) ≡ true
-and_true true b h g = g
-and_true false b h g = cc
-
-and_parts : (a b : Bool) → (a && b) ≡ true → (a ≡ true) × (b ≡ true)
-and_parts true b h = (refl, h)
-and_parts false b h = absurd (let e : false ≡ true = h in cc)
-
 within_in : {X : Type 0} (P : X → Type 0) (n : ℕ) (w : List ℕ) (x : X) → P x → IfFine (within n w x) P
 within_in P n w x h = cond_fine P (is_long w) (wrong Bound n) (fine x) tt h
 
@@ -101,19 +95,19 @@ used_in allowed (Usable c) reader n w = cond_fine (ColumnIn allowed) (is_name w)
 operation_in : (allowed : ℕ → Bool) (n : ℕ) (o : Option Operation) (terms : Reading (Term × Term)) (product : Reading (ℤ × Term)) (access : Reading (Column × Term))
     → IfFine terms (TermsIn allowed) → IfFine product (ProductIn allowed) → IfFine access (AccessIn allowed) → IfFine (operation_reading n o terms product access) (TermIn allowed)
 operation_in allowed n None terms product access h g i = tt
-operation_in allowed n (Some O.Add) terms product access h g i = mapped_fine (TermsIn allowed) (TermIn allowed) (sum_of O.Add) terms h (λ p a. and_true (term_passes (among allowed) p.0) (term_passes (among allowed) p.1) a.0 a.1)
+operation_in allowed n (Some O.Add) terms product access h g i = mapped_fine (TermsIn allowed) (TermIn allowed) (sum_of O.Add) terms h (λ p a. and_from (term_passes (among allowed) p.0) (term_passes (among allowed) p.1) a.0 a.1)
 operation_in allowed n (Some O.Subtract) terms product access h g i =
-    mapped_fine (TermsIn allowed) (TermIn allowed) (sum_of O.Subtract) terms h (λ p a. and_true (term_passes (among allowed) p.0) (term_passes (among allowed) p.1) a.0 a.1)
+    mapped_fine (TermsIn allowed) (TermIn allowed) (sum_of O.Subtract) terms h (λ p a. and_from (term_passes (among allowed) p.0) (term_passes (among allowed) p.1) a.0 a.1)
 operation_in allowed n (Some O.Multiply) terms product access h g i = mapped_fine (ProductIn allowed) (TermIn allowed) product_of product g (λ p a. a)
 operation_in allowed n (Some O.Read) terms product access h g i =
-    mapped_fine (AccessIn allowed) (TermIn allowed) access_of access i (λ p a. and_true (column_passes (among allowed) p.0) (term_passes (among allowed) p.1) a.0 a.1)
+    mapped_fine (AccessIn allowed) (TermIn allowed) access_of access i (λ p a. and_from (column_passes (among allowed) p.0) (term_passes (among allowed) p.1) a.0 a.1)
 
 built_in : (allowed : ℕ → Bool) (n : ℕ) (b : Option Built) (numbers : Reading (ℤ × ℤ)) (store : Reading ((Column × Term) × Term)) → IfFine store (StoreIn allowed) → IfFine (built_reading n b numbers store) (ColumnIn allowed)
 built_in allowed n None numbers store h = tt
 built_in allowed n (Some B.Affine) numbers store h = mapped_fine (λ p. Unit {0}) (ColumnIn allowed) affine_of numbers (if_fine_unit numbers) (λ p a. refl)
 built_in allowed n (Some B.Store) numbers store h =
     mapped_fine (StoreIn allowed) (ColumnIn allowed) store_of store h
-    (λ p a. and_true (column_passes (among allowed) p.0.0 && term_passes (among allowed) p.0.1) (term_passes (among allowed) p.1) (and_true (column_passes (among allowed) p.0.0) (term_passes (among allowed) p.0.1) a.0.0 a.0.1) a.1)
+    (λ p a. and_from (column_passes (among allowed) p.0.0 && term_passes (among allowed) p.0.1) (term_passes (among allowed) p.1) (and_from (column_passes (among allowed) p.0.0) (term_passes (among allowed) p.0.1) a.0.0 a.0.1) a.1)
 
 mutual
   term_in : (allowed : ℕ → Bool) (names : Names) → NamesIn allowed names → (bound : List (List ℕ)) (n : ℕ) (t : Tree) → IfFine (term_reading names bound n t) (TermIn allowed)
@@ -164,10 +158,10 @@ mutual
 
 -- a formula of parts that are read so
 comparison_in : (allowed : ℕ → Bool) (x y : Term) → TermIn allowed x → TermIn allowed y → (term_passes (among allowed) x && term_passes (among allowed) y) ≡ true
-comparison_in allowed x y a b = and_true (term_passes (among allowed) x) (term_passes (among allowed) y) a b
+comparison_in allowed x y a b = and_from (term_passes (among allowed) x) (term_passes (among allowed) y) a b
 
 implication_in : (allowed : ℕ → Bool) (p : Formula × Formula) → PairIn allowed p → FormulaIn allowed (implication_of p)
-implication_in allowed p a = λ m. and_true (passes (λ k. among allowed) m p.0) (passes (λ k. among allowed) m p.1) (a.0 m) (a.1 m)
+implication_in allowed p a = λ m. and_from (passes (λ k. among allowed) m p.0) (passes (λ k. among allowed) m p.1) (a.0 m) (a.1 m)
 
 connective_in : (allowed : ℕ → Bool) (n : ℕ) (c : Option Connective) (terms : Reading (Term × Term)) (one : Reading Formula) (any : Reading Formulas) (two : Reading (Formula × Formula)) (body : Reading Formula)
     → IfFine terms (TermsIn allowed) → IfFine one (FormulaIn allowed) → IfFine any (FormulasIn allowed) → IfFine two (PairIn allowed) → IfFine body (FormulaIn allowed)
@@ -218,11 +212,11 @@ mutual
   formulas_in allowed names low bound m (t ▸ ts) =
       both_fine (FormulaIn allowed) (FormulasIn allowed) (FormulasIn allowed) more (formula_reading names bound m t) (formulas_reading names bound (m + item_count t) ts)
       (formula_in allowed names low bound m t) (formulas_in allowed names low bound (m + item_count t) ts)
-      (λ f fs a b k. and_true (passes (λ i. among allowed) k f) (all_pass (λ i. among allowed) k fs) (a k) (b k))
+      (λ f fs a b k. and_from (passes (λ i. among allowed) k f) (all_pass (λ i. among allowed) k fs) (a k) (b k))
 
 -- formulas in a row, as a list
 pub each_in : (allowed : ℕ → Bool) (fs : List Formula) → FormulasIn allowed (formulas fs) → list_all (λ f. passes (λ k. among allowed) 0 f) fs ≡ true
 each_in allowed [] h = refl
 each_in allowed (f ∷ fs) h =
     let parts = λ (m : ℕ). and_parts (passes (λ k. among allowed) m f) (all_pass (λ k. among allowed) m (formulas fs)) (h m) in
-    and_true (passes (λ k. among allowed) 0 f) (list_all (λ f. passes (λ k. among allowed) 0 f) fs) (parts 0).0 (each_in allowed fs (λ m. (parts m).1))
+    and_from (passes (λ k. among allowed) 0 f) (list_all (λ f. passes (λ k. among allowed) 0 f) fs) (parts 0).0 (each_in allowed fs (λ m. (parts m).1))

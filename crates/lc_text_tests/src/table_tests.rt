@@ -1,5 +1,7 @@
 //! Tests of the table of terms and formulas.
 use lc_base::{ColId, OutOfMemory};
+use lc_copy::{copy_from, formula_tree, term_tree};
+use lc_put::shift;
 use lc_table::Terms;
 use lc_term::{ColExpr, Formula, Term};
 use std::alloc::Global;
@@ -31,7 +33,7 @@ fn is_given_back(alloc: Global) -> Result<bool, OutOfMemory> {
     let formula = comparison(alloc)?;
     let mut terms = Terms::new(alloc);
     let id = terms.enter_formula(alloc, &formula)?;
-    Ok(terms.formula(alloc, id)? == formula)
+    Ok(formula_tree(&terms, alloc, id)? == formula)
 }
 
 fn is_copied(alloc: Global) -> Result<bool, OutOfMemory> {
@@ -39,8 +41,8 @@ fn is_copied(alloc: Global) -> Result<bool, OutOfMemory> {
     let mut terms = Terms::new(alloc);
     let id = terms.enter_formula(alloc, &formula)?;
     let mut other = Terms::new(alloc);
-    let copy = other.copy_from(alloc, &terms, id)?;
-    Ok((other.formula(alloc, copy)? == formula) & (other.len() == 3))
+    let copy = copy_from(&mut other, alloc, &terms, id)?;
+    Ok((formula_tree(&other, alloc, copy)? == formula) & (other.len() == 3))
 }
 
 // A shift that moves nothing answers the same number.
@@ -52,10 +54,10 @@ fn is_shifted(alloc: Global) -> Result<bool, OutOfMemory> {
     let read = Term::read(alloc, stored, Term::Bound(1))?;
     let mut terms = Terms::new(alloc);
     let id = terms.enter_term(&read)?;
-    let moved = terms.shift(alloc, id, 2, 1)?;
+    let moved = shift(&mut terms, alloc, id, 2, 1)?;
     let id = terms.enter_term(&read)?;
-    let stays = terms.shift(alloc, id, 2, 2)?;
-    Ok((id == stays) & (id != moved) & (terms.term(alloc, id)? == read))
+    let stays = shift(&mut terms, alloc, id, 2, 2)?;
+    Ok((id == stays) & (id != moved) & (term_tree(&terms, alloc, id)? == read))
 }
 
 #[test]

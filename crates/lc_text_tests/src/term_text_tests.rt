@@ -3,7 +3,9 @@ ghost use Rattle.std.specs.Prelude.{IfOk};
 ghost use Rattle.lc_table.specs.Tables.{IsTerm};
 
 use lc_base::{ColId, OutOfMemory};
-use lc_table::{Put, PutColumns, PutVariables, TermId, Terms, nothing_replaced};
+use lc_copy::formula_tree;
+use lc_put::{Put, PutColumns, PutVariables, nothing_replaced, replace, replace_term};
+use lc_table::{TermId, Terms};
 use lc_term::{ColExpr, Formula, Term};
 use lc_text::{Spelling, write_formula};
 use std::alloc::Global;
@@ -48,9 +50,20 @@ fn comparisons(alloc: Global) -> Result<Formula, OutOfMemory> {
 fn replaced_text(alloc: Global, formula: &Formula, put: &Put<'_>) -> Result<String, OutOfMemory> {
     let mut terms = Terms::new(alloc);
     let formula = terms.enter_formula(alloc, formula)?;
-    let formula = terms.replace(alloc, put, &mut nothing_replaced(alloc), formula)?;
+    let formula = replace(
+        &mut terms,
+        alloc,
+        put,
+        &mut nothing_replaced(alloc),
+        formula,
+    )?;
     let mut text = String::new(alloc);
-    write_formula(&mut text, &Numbers, 1, &terms.formula(alloc, formula)?)?;
+    write_formula(
+        &mut text,
+        &Numbers,
+        1,
+        &formula_tree(&terms, alloc, formula)?,
+    )?;
     Ok(text)
 }
 
@@ -113,9 +126,9 @@ fn is_replaced_once(alloc: Global) -> Result<bool, OutOfMemory> {
     };
     let mut done = nothing_replaced(alloc);
     let entered = terms.len();
-    let replaced = terms.replace_term(alloc, &put, &mut done, sum)?;
+    let replaced = replace_term(&mut terms, alloc, &put, &mut done, sum)?;
     let grown = terms.len();
-    let again = terms.replace_term(alloc, &put, &mut done, sum)?;
+    let again = replace_term(&mut terms, alloc, &put, &mut done, sum)?;
     Ok((entered == 61) & (grown == 122) & (again == replaced) & (terms.len() == 122))
 }
 

@@ -1,12 +1,12 @@
 //! A caller of lc_native.
 ghost use Rattle.std.specs.Prelude.{[], List, IfOk, IsTrue};
-ghost use Rattle.lc_hist.specs.History.{Event, IsLinearizable};
+ghost use Rattle.lc_history.specs.History.{Event, IsLinearizable};
 ghost use Rattle.lc_native.specs.Stack.{stack_step};
 ghost use Rattle.lc_seq.specs.TextStep.{start_of, text_step};
 ghost use Rattle.lc_seq.specs.TextView.{specification_of};
 
 use lc_base::OutOfMemory;
-use lc_hist::laws::shadowed;
+use lc_history::laws::shadowed;
 use lc_native::NatStack;
 use lc_seq::{Shadows, TextSpec};
 use std::alloc::Global;

@@ -1,10 +1,10 @@
-//! A caller of lc_hist.
+//! A caller of lc_history.
 ghost use Rattle.std.specs.Prelude.{◌↔◌, IfOk, IsTrue};
-ghost use Rattle.lc_hist.specs.Histories.{events_in};
-ghost use Rattle.lc_hist.specs.History.{Linearizes};
-ghost use Rattle.lc_hist.specs.View.{entries_in};
+ghost use Rattle.lc_history.specs.Histories.{events_in};
+ghost use Rattle.lc_history.specs.History.{Linearizes};
+ghost use Rattle.lc_history.specs.View.{entries_in};
 
-use lc_hist::{Done, History, JudgeFault, judge};
+use lc_history::{Done, History, JudgeFault, judge};
 use lc_seq::SeqObject;
 use std::alloc::Global;
 

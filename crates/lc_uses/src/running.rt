@@ -3,8 +3,8 @@ ghost use Rattle.std.specs.Prelude.{◌≡◌, IfOk, IfSome};
 ghost use Rattle.std.specs.Arc.{arc_value};
 ghost use Rattle.lc_base.specs.Limits.{seat_limit};
 ghost use Rattle.lc_check.specs.VerdictView.{development_in};
-ghost use Rattle.lc_hist.specs.Histories.{events_in};
-ghost use Rattle.lc_hist.specs.History.{Linearizes};
+ghost use Rattle.lc_history.specs.Histories.{events_in};
+ghost use Rattle.lc_history.specs.History.{Linearizes};
 ghost use Rattle.lc_run.specs.Ordering.{order_entries};
 ghost use Rattle.lc_seq.specs.TextStep.{start_of, text_step};
 

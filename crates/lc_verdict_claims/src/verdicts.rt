@@ -93,6 +93,7 @@ pub fn proving(
 pub fn proving_alone(
     prover: &mut Alone,
     alloc: Global,
+    development: &Development,
     terms: &mut Terms,
     number: u64,
     condition: &Condition,
@@ -104,7 +105,7 @@ pub fn proving_alone(
     ensures exactly { ProvesOne number (condition_in terms.old condition.now) (proof_of proof.now) result }
     ensures kept { Keeps terms.old terms.new }
 {
-    prover.prove(alloc, terms, number, condition, proof)
+    prover.prove(alloc, development, terms, number, condition, proof)
 }
 
 /// A proof proves the next condition, and the one after it is next; or it is refused, and the same condition is next.

@@ -12,8 +12,8 @@ use Rattle.lc_base.specs.NameText.{is_name}
 use Rattle.lc_base.specs.declared.name.Name.{Name}
 use Rattle.lc_lib_texts.specs.Names.{lib_named}
 use Rattle.lc_lib_texts.specs.declared.library.Lib.{Lib}
-use Rattle.lc_words.specs.Reading.{beginning_task, begun, is_set, library_task, listed, listing_task, number_given, one_file_task, ordering, ordering_task, proving_task, running_task, showing_task, text_for, two_file_task, carrying_task}
-use Rattle.lc_words.specs.Tasks.{BeginDevelopment, FindOrder, PrintLibrary, RunPlan, Task, is_development_name, proving, showing, carrying}
+use Rattle.lc_words.specs.Reading.{beginning_task, begun, is_set, library_task, listed, listing_task, number_given, one_file_task, ordering, ordering_task, proving_task, running_task, showing_task, text_for, two_file_task, carrying_task, completing_task}
+use Rattle.lc_words.specs.Tasks.{BeginDevelopment, FindOrder, MakeWhole, PrintLibrary, RunPlan, Task, is_development_name, proving, showing, carrying}
 use Rattle.lc_words.specs.declared.request.LibraryText.{LibraryText}
 
 -- the task of one path, and of two, if clap finds them
@@ -34,6 +34,15 @@ pub ordering_found : (f : Found) (development history : Text) (check : Bool) (bu
     → check ≡ is_set (codes "check") (rows_of f) → budget ≡ number_given (codes "budget") (rows_of f) → Some (FindOrder development history check budget) ≡ ordering_task (rows_of f)
 ordering_found f development history check budget is is' set given =
     ap₂ (λ x y. Some (FindOrder development history x y)) set given ∙ two_found (ordering (rows_of f)) (codes "HISTORY") f (Some development) (Some history) is is'
+
+-- a short development is made whole as the option says
+pub completing_found : (f : Found) (short : Text) (budget : Option ℕ) → Some short ≡ first_value f (codes "SHORT") → budget ≡ number_given (codes "budget") (rows_of f)
+    → Some (MakeWhole short budget) ≡ completing_task (rows_of f)
+completing_found f short budget is given =
+    ap₂ (λ x y. option_map (λ s. MakeWhole s y) x) (is ∙ first_value-rows f (codes "SHORT")) given
+
+pub completing_unfound : (f : Found) → None ≡ first_value f (codes "SHORT") → None ≡ completing_task (rows_of f)
+completing_unfound f is = ap (option_map (λ s. MakeWhole s (number_given (codes "budget") (rows_of f)))) (is ∙ first_value-rows f (codes "SHORT"))
 
 -- the same for a development that is to be proved, with hints or without
 pub proving_found : (f : Found) (development : Text) (hints : Option Text) → Some development ≡ first_value f (codes "DEV") → hints ≡ first_value f (codes "hints")

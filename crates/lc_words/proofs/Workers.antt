@@ -8,7 +8,7 @@ use Rattle.clap.specs.declared.builder.value_parser.ValueParser.TheVariants.{Uns
 use Rattle.clap.specs.declared.parser.matches.Found.{Found}
 use Rattle.clap.proofs.ValueTestLemmas.{Accepts-accepts}
 use Rattle.clap.proofs.WalkLemmas.{first_value-rows}
-use Rattle.lc_base.specs.Limits.{worker_limit}
+use Rattle.lc_words.specs.Limits.{worker_limit}
 use Rattle.lc_words.specs.Reading.{checked, checking_task, is_set, number_given, number_in}
 use Rattle.lc_words.specs.Tasks.{Task}
 use Rattle.lc_words.proofs.Numbers.{unsigned_in}

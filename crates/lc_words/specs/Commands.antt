@@ -3,7 +3,7 @@ use Rattle.std.specs.Prelude.{true, codes, [], Some}
 use Rattle.clap.specs.Words.{App, Rule, Text, new_app, new_rule, with_rule, with_subcommand}
 use Rattle.clap.specs.declared.builder.action.ArgAction.TheVariants.{Set, SetTrue}
 use Rattle.clap.specs.declared.builder.value_parser.ValueParser.TheVariants.{Unsigned}
-use Rattle.lc_base.specs.Limits.{worker_limit}
+use Rattle.lc_words.specs.Limits.{worker_limit}
 
 -- a required argument that names a file
 abbrev pub file_rule : Text → Rule
@@ -109,6 +109,10 @@ order_word_app = with_rule (with_rule (with_rule (new_app (codes "order")) (file
 abbrev pub order_app : App
 order_app = explained (with_rule order_word_app (number_rule (codes "budget")))
 
+-- `complete SHORT [--budget N] [--quiet] [--explain]`
+abbrev pub complete_app : App
+complete_app = explained (with_rule (with_rule (new_app (codes "complete")) (file_rule (codes "SHORT"))) (number_rule (codes "budget")))
+
 -- a command of this name that has a version and needs a subcommand
 abbrev pub needs_subcommand : Text → App
 needs_subcommand name = record { top = record (new_app name).top { subcommand_required = true; has_version = true }; subs = [] }
@@ -133,6 +137,10 @@ carrying_app = with_subcommand (with_subcommand proving_app carry_app.top) libra
 abbrev pub drawing_app : App
 drawing_app = with_subcommand (with_subcommand carrying_app draw_app.top) begin_app.top
 
+-- the program with its first twelve commands
+abbrev pub ordering_app : App
+ordering_app = with_subcommand (with_subcommand drawing_app run_app.top) order_app.top
+
 -- the program and its commands
 abbrev pub program_app : App
-program_app = with_subcommand (with_subcommand drawing_app run_app.top) order_app.top
+program_app = with_subcommand ordering_app complete_app.top

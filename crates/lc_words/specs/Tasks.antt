@@ -4,7 +4,8 @@ use Rattle.std.specs.Borrow.{Bor}
 use Rattle.std.specs.Fmt.{decimal}
 use Rattle.std.specs.declared.alloc.Global.{Global}
 use Rattle.clap.specs.Words.{Text}
-use Rattle.lc_base.specs.Limits.{name_limit, worker_limit}
+use Rattle.lc_base.specs.Limits.{name_limit}
+use Rattle.lc_words.specs.Limits.{worker_limit}
 use Rattle.lc_base.specs.NameText.{is_name}
 use Rattle.lc_lib_texts.specs.Names.{name_of}
 use Rattle.lc_lib_texts.specs.declared.library.Lib.{Lib}
@@ -13,7 +14,7 @@ use Rattle.lc_words.specs.declared.request.Chosen.TheVariants.{Number, Those}
 use Rattle.lc_words.specs.declared.request.LibraryText.{LibraryText}
 use Rattle.lc_words.specs.declared.request.LibraryText.TheVariants.{Development, Certificate, Hints}
 use Rattle.lc_words.specs.declared.request.Request.{Request}
-use Rattle.lc_words.specs.declared.request.Request.TheVariants.{Formula, Judge, Show, Conditions, Check, Prove, Draw, New, Library, Carry, Run, Order}
+use Rattle.lc_words.specs.declared.request.Request.TheVariants.{Formula, Judge, Show, Conditions, Check, Prove, Draw, New, Library, Carry, Run, Order, Complete}
 
 -- Which conditions are chosen: those of a point, of a kind, or of both, by their words
 pub data Filter : Type 0 where
@@ -27,9 +28,10 @@ pub data Filter : Type 0 where
 -- workers; that a certificate is found for the development in a file, without hints or with those in another; that a certificate is found
 -- for a new development, with the proofs of an old one, by its certificate, without hints or with those in a further file; that the
 -- development in a file is run, which the certificate in another proves, by the plan in a third; that the history in one file is drawn by
--- the specification in another; that a development with a name is begun; that a text of an object of the library is printed; or that an
+-- the specification in another; that a development with a name is begun; that a text of an object of the library is printed; that an
 -- order is found that linearizes the history in one file by the specification in another, or a word says whether there is one, over as
--- many nodes as a number says, if one is given
+-- many nodes as a number says, if one is given; or that the short development in a file is made whole, in as many steps for a condition as a
+-- number says, if one is given
 pub data Task : Type 0 where
   CheckFormula : (path : List ℕ) → Task
   JudgeHistory : (development history : List ℕ) → Task
@@ -49,6 +51,7 @@ pub data Task : Type 0 where
   BeginDevelopment : (name : List ℕ) → Task
   PrintLibrary : (lib : Lib) (text : LibraryText) → Task
   FindOrder : (development history : List ℕ) (check : Bool) (budget : Option ℕ) → Task
+  MakeWhole : (short : List ℕ) (budget : Option ℕ) → Task
 
 -- the task of showing a development, on two lines or laid out
 abbrev pub showing : List ℕ → (lines : Bool) → Task
@@ -100,6 +103,7 @@ task_of (Draw development history) = DrawHistory development.now history.now
 task_of (New name) = BeginDevelopment name.now
 task_of (Library lib text) = PrintLibrary lib text
 task_of (Order development history check budget) = FindOrder development.now history.now check budget
+task_of (Complete short budget) = MakeWhole short.now budget
 
 -- the texts of the words
 abbrev pub texts_of : List (String Global) → List Text
@@ -133,6 +137,11 @@ order_words true None = codes "--check" ∷ []
 order_words false (Some n) = codes "--budget" ∷ decimal n ∷ []
 order_words true (Some n) = codes "--check" ∷ codes "--budget" ∷ decimal n ∷ []
 
+-- the option of a number of steps
+abbrev pub budget_words : Option ℕ → List Text
+budget_words None = []
+budget_words (Some n) = codes "--budget" ∷ decimal n ∷ []
+
 -- the words that ask for a task, after the name of the program
 abbrev pub words_for : List ℕ → Task → List Text
 words_for name (CheckFormula path) = name ∷ codes "formula" ∷ path ∷ []
@@ -153,6 +162,7 @@ words_for name (DrawHistory development history) = name ∷ codes "draw" ∷ dev
 words_for name (BeginDevelopment own) = name ∷ codes "new" ∷ own ∷ []
 words_for name (PrintLibrary lib text) = library_words name (name_of lib) text
 words_for name (FindOrder development history check budget) = name ∷ codes "order" ∷ development ∷ history ∷ order_words check budget
+words_for name (MakeWhole short budget) = name ∷ codes "complete" ∷ short ∷ budget_words budget
 
 -- no word of it begins with a hyphen
 abbrev pub HasPlainWords : Filter → Type 0
@@ -180,6 +190,7 @@ HasPlainPaths (DrawHistory development history) = (is_plain development ≡ true
 HasPlainPaths (BeginDevelopment name) = is_development_name name ≡ true
 HasPlainPaths (PrintLibrary lib text) = Unit {0}
 HasPlainPaths (FindOrder development history check budget) = (is_plain development ≡ true) × (is_plain history ≡ true) × IfSome budget (λ n. n < 2 ^ 64)
+HasPlainPaths (MakeWhole short budget) = (is_plain short ≡ true) × IfSome budget (λ n. n < 2 ^ 64)
 
 -- it reads files
 abbrev pub ReadsFiles : Task → Type 0

@@ -5,19 +5,19 @@ ghost use Rattle.clap.specs.declared.builder.command.Command.TheViews.{out-Comma
 ghost use Rattle.lc_words.specs.Commands.{option_rule, program_app};
 ghost use Rattle.lc_words.specs.Tables.{app_for, program_for, rule_for};
 
+use crate::limits::WORKER_LIMIT;
 use crate::texts::{
     ABOUT, CARRY, CARRY_ANSWER, CERTIFICATE_FILE, CHECK, CHECK_ALL, CHECK_ANSWER, CHECK_PROGRESS,
-    CONDITION_KIND, CONDITION_NUMBER, CONDITION_POINT, CONDITIONS, CONDITIONS_ANSWER, DEVELOPMENT,
-    DRAW, DRAW_ANSWER, EXIT_STATUS, EXPLAIN, FORMULA, FORMULA_ANSWER, FORMULA_FILE, HINTS, JUDGE,
-    JUDGE_ANSWER, JUDGE_DEVELOPMENT, JUDGE_HISTORY, LIBRARY, LIBRARY_ANSWER, LIBRARY_CERTIFICATE,
-    LIBRARY_HINTS, NEW, NEW_ANSWER, NEW_DEVELOPMENT, NEW_HINTS, NEW_NAME, OBJECT, OLD,
-    OLD_CERTIFICATE, ORDER, ORDER_ANSWER, ORDER_BUDGET, ORDER_CHECK, ORDER_HISTORY, PLAN_FILE,
-    PROGRESS, PROVE, PROVE_ALL, PROVE_ANSWER, QUIET, RUN, RUN_ANSWER, SHOW, SHOW_ANSWER,
-    SHOW_LINES, VERSION, WORKERS,
+    COMPLETE, COMPLETE_ANSWER, COMPLETE_BUDGET, CONDITION_KIND, CONDITION_NUMBER, CONDITION_POINT,
+    CONDITIONS, CONDITIONS_ANSWER, DEVELOPMENT, DRAW, DRAW_ANSWER, EXIT_STATUS, EXPLAIN, FORMULA,
+    FORMULA_ANSWER, FORMULA_FILE, HINTS, JUDGE, JUDGE_ANSWER, JUDGE_DEVELOPMENT, JUDGE_HISTORY,
+    LIBRARY, LIBRARY_ANSWER, LIBRARY_CERTIFICATE, LIBRARY_HINTS, NEW, NEW_ANSWER, NEW_DEVELOPMENT,
+    NEW_HINTS, NEW_NAME, OBJECT, OLD, OLD_CERTIFICATE, ORDER, ORDER_ANSWER, ORDER_BUDGET,
+    ORDER_CHECK, ORDER_HISTORY, PLAN_FILE, PROGRESS, PROVE, PROVE_ALL, PROVE_ANSWER, QUIET, RUN,
+    RUN_ANSWER, SHORT, SHOW, SHOW_ANSWER, SHOW_LINES, VERSION, WORKERS,
 };
 use clap::builder::ValueParser;
 use clap::{Arg, ArgAction, Command};
-use lc_base::WORKER_LIMIT;
 use std::alloc::{AllocError, Global};
 
 /// An argument, by its name and what the help says of it.
@@ -152,7 +152,7 @@ static DRAW_COMMAND: Described = Described {
     answer: DRAW_ANSWER,
     arguments: &[
         Argument::Place("DEV", JUDGE_DEVELOPMENT),
-        Argument::Place("HISTORY", JUDGE_HISTORY),
+        Argument::Place("HISTORY", ORDER_HISTORY),
         Argument::Flag("quiet", QUIET),
         Argument::Flag("explain", EXPLAIN),
     ],
@@ -187,6 +187,18 @@ static ORDER_COMMAND: Described = Described {
         Argument::Place("HISTORY", ORDER_HISTORY),
         Argument::Flag("check", ORDER_CHECK),
         Argument::Number("budget", ORDER_BUDGET, 0, u64::MAX),
+        Argument::Flag("quiet", QUIET),
+        Argument::Flag("explain", EXPLAIN),
+    ],
+};
+
+static COMPLETE_COMMAND: Described = Described {
+    name: "complete",
+    about: COMPLETE,
+    answer: COMPLETE_ANSWER,
+    arguments: &[
+        Argument::Place("SHORT", SHORT),
+        Argument::Number("budget", COMPLETE_BUDGET, 0, u64::MAX),
         Argument::Flag("quiet", QUIET),
         Argument::Flag("explain", EXPLAIN),
     ],
@@ -271,6 +283,7 @@ pub(crate) fn program<'a>(alloc: Global) -> Result<Command<'a>, AllocError>
         &NEW_COMMAND,
         &RUN_COMMAND,
         &ORDER_COMMAND,
+        &COMPLETE_COMMAND,
     ];
     program_of(alloc, &commands)
 }

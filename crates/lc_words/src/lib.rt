@@ -3,9 +3,11 @@
 
 mod commands;
 pub mod laws;
+mod limits;
 mod reading;
 mod request;
 mod texts;
 
+pub use limits::WORKER_LIMIT;
 pub use reading::read_words;
 pub use request::{Asked, Chosen, LibraryText, Request};

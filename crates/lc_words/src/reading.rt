@@ -4,7 +4,7 @@ ghost use Rattle.clap.specs.Words.{found_of, kind_of, rows_of, subcommand_of, su
 ghost use Rattle.clap.specs.declared.error.kind.ErrorKind.TheVariants.{OutOfMemory};
 ghost use Rattle.lc_words.specs.Commands.{program_app};
 ghost use Rattle.lc_words.specs.Tasks.{CheckCertificate, CheckFormula, DrawHistory, JudgeHistory, Task, chosen_task, path_in, task_of, texts_of};
-ghost use Rattle.lc_words.specs.Reading.{AreWrong, AskFor, AskForHelp, AsksForText, Reads, beginning_task, checking_task, is_explained, is_set, library_task, listed, listing_task, number_given, number_in, one_file_task, ordering_task, proving_task, running_task, showing_task, task_in, text_for, two_file_task, carrying_task, checked};
+ghost use Rattle.lc_words.specs.Reading.{AreWrong, AskFor, AskForHelp, AsksForText, Reads, beginning_task, checking_task, is_explained, is_set, library_task, listed, listing_task, number_given, number_in, one_file_task, ordering_task, proving_task, running_task, showing_task, task_in, text_for, two_file_task, carrying_task, checked, completing_task};
 
 use crate::commands::program;
 use crate::request::{Asked, Chosen, LibraryText, Request};
@@ -56,6 +56,14 @@ fn order_request<'a>(command: &ArgMatches<'a>) -> Option<Request<'a>>
         check,
         budget,
     })
+}
+
+fn complete_request<'a>(command: &ArgMatches<'a>) -> Option<Request<'a>>
+    ensures { option_map task_of result ≡ completing_task (rows_of (found_of command.now)) }
+{
+    let short = command.get_str("SHORT")?;
+    let budget = number_given(command, "budget");
+    Some(Request::Complete { short, budget })
 }
 
 fn show_request<'a>(command: &ArgMatches<'a>) -> Option<Request<'a>>
@@ -246,6 +254,7 @@ fn request_of<'a>(matches: &ArgMatches<'a>) -> Option<Request<'a>>
         "new" => new_request(command),
         "run" => run_request(command),
         "order" => order_request(command),
+        "complete" => complete_request(command),
         _ => None,
     }
 }

@@ -85,6 +85,11 @@ pub enum Request<'a> {
         check: bool,
         budget: Option<u64>,
     },
+    /// Make the short development in a file whole, in at most `budget` steps for a condition, if a number is given.
+    Complete {
+        short: &'a str,
+        budget: Option<u64>,
+    },
     /// Print a development of this name to begin with.
     New(&'a str),
     /// Print a text of an object of the library.

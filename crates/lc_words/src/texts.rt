@@ -89,10 +89,11 @@ Example:
 pub(crate) const DRAW: &str = "Draws a history with its order";
 
 pub(crate) const DRAW_ANSWER: &str = "\
-Reads DEV and HISTORY as `judge` does, and prints a picture as SVG: a line for each client, a bar for each call from its beginning
+Reads DEV and HISTORY as `order` does, and prints a picture as SVG: a line for each client, a bar for each call from its beginning
 to its return, open at the right if it has not returned, and in the bars the entries of the order as marks with their places.
-What makes the order no linearization is marked, and the reason is written below. A file that `judge` refuses by the codes 1 to 4,
-6 or 13 is refused here too.
+What makes the order no linearization is marked, and the reason is written below. If HISTORY has no order, one is looked for, as by
+`order`; if there is none, a line is behind the event up to which no order linearizes the events. A file that `order` refuses
+is refused here too.
 
 Example:
   lincheck draw examples/counter.spec examples/linearizable.json > history.svg
@@ -126,6 +127,26 @@ Examples:
       prints what three clients saw of a counter, with an order that `judge` accepts
   lincheck order examples/counter.spec examples/recorded.json --check
       prints `linearizable`";
+
+pub(crate) const COMPLETE: &str = "Makes a short development whole";
+
+pub(crate) const SHORT: &str =
+    "A development without some of its actions and assertions, and without sections that would be empty";
+
+pub(crate) const COMPLETE_BUDGET: &str =
+    "How many steps are tried for a condition; 1,000,000 without it";
+
+pub(crate) const COMPLETE_ANSWER: &str = "\
+Reads in SHORT the specification of an object, its code with its marks, and its invariant, and prints a development over lines, with
+actions and assertions that were guessed. What is written in SHORT is kept. If proofs of all of its conditions were found the status is 0.
+Else the status is 1, the last line is a comment:
+  ; incomplete COUNT       of so many conditions no proof was found
+and standard error says which, by points: there something is to be asserted, or the object, a mark or the invariant is not right.
+A SHORT that is no short development is refused by one line, as a development is, by the codes 1 to 6.
+
+Example:
+  lincheck complete examples/short.lc > counter.lc
+      prints a counter with the actions and assertions that it needs, which `prove` and `check` read";
 
 pub(crate) const DEVELOPMENT: &str =
     "A development: a specification, the object's code, and what is claimed of it";

@@ -1,24 +1,31 @@
 -- The answer to a history's file that is to be drawn, from its reading and from the beginning of the file.
-use Rattle.std.proofs.Common.{◌≡◌, ℕ, ℤ, ◌≤◌, length, take, List, Option, Some, None, Result, Ok, Err, IfOk, Vec, refl, subst, ◌∙◌, inl, inr, arith}
+use Rattle.std.proofs.Common.{◌≡◌, ◌==◌, ℕ, ℤ, ◌≤◌, true, false, length, take, List, [], ◌∷◌, Option, None, Result, Ok, Err, IfOk, Vec, refl, subst, ◌∙◌, inl, inr, arith}
+use Rattle.std.proofs.lemmas.Bool.{eqb-true}
 use Rattle.std.proofs.lemmas.List.{take_all, length-take}
 use Rattle.std.specs.declared.alloc.Global.{Global}
+use Rattle.lc_lemmas.proofs.Numbers.{below_or_from}
+use Rattle.lc_base.specs.declared.refusal.Fault.{Fault}
 use Rattle.lc_draw.specs.Drawings.{IsDrawing}
-use Rattle.lc_hist.specs.History.{Event}
-use Rattle.lc_hist.specs.JsonHistories.{SaysHistory, entries_view}
-use Rattle.lc_hist.specs.declared.event.Done.{Done}
+use Rattle.lc_history.specs.History.{Event}
+use Rattle.lc_hist.specs.JsonHistories.{IsRefusedAt}
+use Rattle.lc_history.specs.View.{entries_view}
+use Rattle.lc_hist.specs.JsonRecorded.{SaysRecorded, IsWrongRecordedItem}
+use Rattle.lc_history.specs.declared.event.Done.{Done}
+use Rattle.lc_order.specs.declared.deciding.Decision.{Decision}
 use Rattle.lc_seq.specs.Specification.{Specification}
 use Rattle.lc_seq.specs.declared.choice.Pick.{Pick}
 use Rattle.lc_seq.specs.declared.text_call.TextCall.{TextCall}
-use Rattle.lincheck.specs.Draw.{AnswersDrawn}
+use Rattle.lincheck.specs.Answers.{ToldFault}
+use Rattle.lincheck.specs.Draw.{AnswersDrawn, DrawsGiven, front_found, order_found}
+use Rattle.lincheck.specs.Order.{IsDecision}
 use Rattle.lincheck.specs.declared.answer.Answer.{Answer}
 use Rattle.lincheck.specs.Reading.{OfFile, within_limit, most_bytes}
-use Rattle.lincheck.proofs.Judgements.{wrong_of_long}
+use Rattle.lincheck.proofs.Ordered.{wrong_item_told, wrong_of_long}
 use Rattle.lincheck.proofs.Read.{read_so}
-use Rattle.lincheck.proofs.Truncated.{below_or_from}
 
 -- the beginning of a file that is beyond the limit says nothing, so item 0 is wrong in it and in the file
 of_long : (spec : Specification) (n : ℕ) (file text : List ℕ) (status : ℕ) → n ≡ most_bytes → n ≤ length file → AnswersDrawn spec (take n file) text status → AnswersDrawn spec file text status
-of_long spec n file text status e long (inl ((history, order, says, draws), told)) = absurd (omega (arith, length-take n file, says.text.limit))
+of_long spec n file text status e long (inl ((history, given, says, draws), told)) = absurd (omega (arith, length-take n file, says.text.limit))
 of_long spec n file text status e long (inr (item, wrong, told)) = inr (item, wrong_of_long spec n file item e long wrong, told)
 
 -- the answer to what is read of a file is that to the file
@@ -33,9 +40,33 @@ pub drawn_answered : (spec : Specification) (known : Option (List ℕ)) (bytes s
     → OfFile known (λ file. bytes ≡ within_limit file) → seen ≡ bytes → AnswersDrawn spec seen text status → OfFile known (λ file. AnswersDrawn spec file text status)
 drawn_answered spec known bytes seen text status read same is = read_so known read (λ file read. of_whole spec most_bytes file text status refl (subst (λ b. AnswersDrawn spec b text status) (same ∙ read) is))
 
+-- a drawing with an order that is given
+pub drawn_as_given : {E : Type 0} (spec : Specification) (events : List Event) (given : List (Done TextCall Pick (Vec ℤ Global))) (result : Result Answer E) → (length given == 0) ≡ false
+    → IfOk result (λ answer. IsDrawing events (entries_view given) None answer.text.items × (answer.status ≡ 0)) → IfOk result (λ answer. DrawsGiven spec events (entries_view given) answer.text.items × (answer.status ≡ 0))
+drawn_as_given spec events given (Err fault) some draws = tt
+drawn_as_given spec events [] (Ok answer) some draws = let no : true ≡ false = some in cc
+drawn_as_given spec events (done ∷ order) (Ok answer) some draws = draws
+
+-- a drawing of what is decided, if none is given
+pub drawn_as_decided : {E : Type 0} (spec : Specification) (events : List Event) (given : List (Done TextCall Pick (Vec ℤ Global))) (decision : Decision TextCall Pick (Vec ℤ Global)) (result : Result Answer E) → (length given == 0) ≡ true
+    → IsDecision spec events decision → IfOk result (λ answer. IsDrawing events (order_found decision) (front_found decision) answer.text.items × (answer.status ≡ 0))
+    → IfOk result (λ answer. DrawsGiven spec events (entries_view given) answer.text.items × (answer.status ≡ 0))
+drawn_as_decided spec events given decision (Err fault) none is draws = tt
+drawn_as_decided spec events [] decision (Ok answer) none is draws = ((decision, is, draws.0), draws.1)
+drawn_as_decided spec events (done ∷ order) decision (Ok answer) none is draws =
+    let zero : length (done ∷ order) ≡ 0 = eqb-true (length (done ∷ order)) 0 none in
+    absurd (omega (arith, zero))
+
 -- the drawing of what the bytes say answers them
-pub drawing_answered : {E : Type 0} (spec : Specification) (bytes : List ℕ) (events : List Event) (order seen : List (Done TextCall Pick (Vec ℤ Global))) (result : Result Answer E) → SaysHistory spec.operations bytes events (entries_view order)
-    → seen ≡ order → IfOk result (λ answer. IsDrawing events (entries_view seen) answer.text.items × (answer.status ≡ 0)) → IfOk result (λ answer. AnswersDrawn spec bytes answer.text.items answer.status)
-drawing_answered spec bytes events order seen (Ok answer) says same (draws, zero) =
-    inl ((events, entries_view order, says, subst (λ (o : List (Done TextCall Pick (Vec ℤ Global))). IsDrawing events (entries_view o) answer.text.items) same draws), zero)
-drawing_answered spec bytes events order seen (Err fault) says same h = tt
+pub drawing_answered : {E : Type 0} (spec : Specification) (bytes : List ℕ) (events : List Event) (given seen : List (Done TextCall Pick (Vec ℤ Global))) (result : Result Answer E)
+    → SaysRecorded spec.operations bytes events (entries_view given) → seen ≡ given → IfOk result (λ answer. DrawsGiven spec events (entries_view seen) answer.text.items × (answer.status ≡ 0))
+    → IfOk result (λ answer. AnswersDrawn spec bytes answer.text.items answer.status)
+drawing_answered spec bytes events given seen (Ok answer) says same (draws, zero) =
+    inl ((events, entries_view given, says, subst (λ (o : List (Done TextCall Pick (Vec ℤ Global))). DrawsGiven spec events (entries_view o) answer.text.items) same draws), zero)
+drawing_answered spec bytes events given seen (Err fault) says same draws = tt
+
+-- and so does what is told of its first item that is wrong
+pub drawing_refused : {E : Type 0} (spec : Specification) (bytes : List ℕ) (fault : Fault) (result : Result Answer E) → IsRefusedAt (IsWrongRecordedItem spec.operations bytes) fault
+    → IfOk result (λ answer. ToldFault fault answer.text.items answer.status) → IfOk result (λ answer. AnswersDrawn spec bytes answer.text.items answer.status)
+drawing_refused spec bytes fault (Err none) wrong told = tt
+drawing_refused spec bytes fault (Ok answer) wrong told = inr (wrong_item_told spec bytes answer.text.items answer.status fault wrong told)

@@ -3,15 +3,17 @@ use Rattle.std.proofs.Common.{◌≡◌, ℕ, ◌≤◌, length, take, List, Opt
 use Rattle.std.specs.Prelude.{IsErr}
 use Rattle.std.specs.declared.alloc.Global.{Global}
 use Rattle.std.proofs.lemmas.List.{take_all, length-take}
+use Rattle.lc_lemmas.proofs.Numbers.{below_or_from}
 use Rattle.lc_base.specs.declared.refusal.Fault.{Fault}
 use Rattle.lc_base.specs.declared.refusal.Fault.TheVariants.{Refused, OutOfMemory}
 use Rattle.lc_base.specs.declared.refusal.Refusal.TheVariants.{Text, Shape, Unknown, Repeated, Auxiliary, Bound, CertText, CertShape, Missing, Extra, Proof, Large, HistoryShape, Order}
-use Rattle.lc_hist.specs.History.{Event, Entry}
-use Rattle.lc_hist.specs.JsonHistories.{SaysHistory, IsWrongItem, entries_view}
-use Rattle.lc_hist.specs.Judged.{IsJudged}
-use Rattle.lc_hist.specs.declared.event.Done.{Done}
-use Rattle.lc_hist.specs.declared.judging.JudgeFault as F
-use Rattle.lc_hist.specs.declared.judging.JudgeFault.TheVariants as V
+use Rattle.lc_history.specs.History.{Event, Entry}
+use Rattle.lc_hist.specs.JsonHistories.{SaysHistory, IsWrongItem}
+use Rattle.lc_history.specs.View.{entries_view}
+use Rattle.lc_history.specs.Judged.{IsJudged}
+use Rattle.lc_history.specs.declared.event.Done.{Done}
+use Rattle.lc_history.specs.declared.judging.JudgeFault as F
+use Rattle.lc_history.specs.declared.judging.JudgeFault.TheVariants as V
 use Rattle.lc_reading.specs.Files.{Says, IsFirstRefusal, IsAnswerTo}
 use Rattle.lc_seq.specs.Specification.{Specification}
 use Rattle.lc_seq.specs.TextStep.{text_step, TextFits, start_of}
@@ -30,7 +32,7 @@ use Rattle.lincheck.specs.declared.answer.Failure.{Failure}
 use Rattle.lincheck.specs.declared.judge.Judgement.{Judgement}
 use Rattle.lincheck.specs.declared.judge.Judgement.TheVariants.{Linearizable, Overflow}
 use Rattle.lincheck.proofs.Read.{read_known, read_so}
-use Rattle.lincheck.proofs.Truncated.{below_or_from, said_of_whole, refusal_of_whole}
+use Rattle.lincheck.proofs.Truncated.{said_of_whole, refusal_of_whole}
 
 -- what is answered of the order that the text says makes the judgement
 judged : (spec : Specification) (bytes : List ℕ) (history : List Event) (order : List Entry) (result : Result (Unit {0}) F.JudgeFault) → SaysHistory spec.operations bytes history order

@@ -1,5 +1,5 @@
 -- What is laid out of a development's file, from the beginning of it that is read.
-use Rattle.std.proofs.Common.{◌≡◌, ℕ, ◌≤◌, List, length, Option, Some, None, Result, Ok, Err, refl, sym, subst, ap, ◌∙◌, inl, inr}
+use Rattle.std.proofs.Common.{◌≡◌, ℕ, ◌≤◌, List, length, Option, Result, Ok, Err, refl, sym, subst, ap, ◌∙◌, inl, inr}
 use Rattle.std.specs.Result.{IsErrAnd}
 use Rattle.lc_base.specs.Line.{refusal_line_of}
 use Rattle.lc_base.specs.Limits.{depth_limit, file_limit}

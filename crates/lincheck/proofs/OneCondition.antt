@@ -7,8 +7,8 @@ use Rattle.lc_base.specs.declared.refusal.Fault.TheVariants.{Refused}
 use Rattle.lc_base.specs.declared.refusal.Refusal.TheVariants.{Extra}
 use Rattle.lc_cond.specs.Conditions.{Condition, conditions}
 use Rattle.lc_cond_text.specs.ConditionText.{condition_text, conditions_text, lines_from, total_line}
-use Rattle.lc_listing.specs.Chosen.{chosen_count, chosen_from, chosen_text}
-use Rattle.lc_listing.specs.Shown.{IsLaid}
+use Rattle.lc_cond_text.specs.Chosen.{chosen_count, chosen_from, chosen_text}
+use Rattle.lc_cond_text.specs.Shown.{IsLaid}
 use Rattle.lc_outline.specs.Development.{Development}
 use Rattle.lc_outline_text.specs.Developments.{file_reading}
 use Rattle.lc_reading.specs.Files.{Says}

@@ -4,12 +4,12 @@ use Rattle.lc_base.specs.declared.refusal.Fault.{Fault}
 use Rattle.lc_base.specs.declared.refusal.Fault.TheVariants.{Refused, OutOfMemory}
 use Rattle.lc_base.specs.declared.refusal.Refusal.TheVariants.{Text, Shape, Unknown, Repeated, Auxiliary, Bound, CertText, CertShape, Missing, Extra, Proof, Large, HistoryShape, Order}
 use Rattle.lc_hist.proofs.JsonOnce.{one_history, one_item, not_both}
-use Rattle.lc_hist.proofs.OneJudgement.{one_judgement}
-use Rattle.lc_hist.specs.History.{Event, Entry}
+use Rattle.lc_history.proofs.OneJudgement.{one_judgement}
+use Rattle.lc_history.specs.History.{Event, Entry}
 use Rattle.lc_hist.specs.JsonHistories.{SaysHistory, IsWrongItem}
-use Rattle.lc_hist.specs.Judged.{IsTold}
-use Rattle.lc_hist.specs.declared.judging.JudgeFault as F
-use Rattle.lc_hist.specs.declared.judging.JudgeFault.TheVariants as V
+use Rattle.lc_history.specs.Judged.{IsTold}
+use Rattle.lc_history.specs.declared.judging.JudgeFault as F
+use Rattle.lc_history.specs.declared.judging.JudgeFault.TheVariants as V
 use Rattle.lc_reading.proofs.Files.{says_not_refused, says_one, refused_once}
 use Rattle.lc_reading.specs.Files.{Says}
 use Rattle.lc_spec_text.specs.Specifications.{first_reading}

@@ -1,12 +1,14 @@
 -- What a development's file and a certificate's are answered, from the beginnings of them that are read.
-use Rattle.std.proofs.Common.{◌≡◌, ℕ, List, Option, Some, None, IfOk, Result, Ok, Err, refl, ap, subst, ◌∙◌, inl, inr}
+use Rattle.std.proofs.Common.{◌≡◌, ℕ, List, Option, IfOk, Result, Ok, Err, refl, ap, subst, ◌∙◌, inl, inr}
 use Rattle.lc_base.specs.declared.refusal.Fault.{Fault}
 use Rattle.lc_base.specs.declared.refusal.Fault.TheVariants.{Refused, OutOfMemory}
 use Rattle.lc_base.specs.declared.refusal.Refusal.{Refusal}
 use Rattle.lc_cert.specs.Files as C
 use Rattle.lc_cert.specs.Readings.{certificate_reading}
 use Rattle.lc_check.specs.Verdicts.{IsProvenBy, IsCertificateRefusal}
-use Rattle.lc_check.specs.VerdictView.{IsVerdictOn}
+use Rattle.lc_check.specs.VerdictView.{IsVerdictOn, IsFinishedOn}
+use Rattle.lc_check.specs.declared.verdict.Finished.{Finished}
+use Rattle.lc_check.specs.declared.verdict.Finished.TheVariants.{Accepted as Proves, Refused as FailsFor}
 use Rattle.lc_check.specs.declared.verdict.Verdict.{Verdict}
 use Rattle.lc_check.specs.declared.verdict.Verdict.TheVariants.{Accepted, Refused as IsRefused}
 use Rattle.lc_outline.specs.Development as S
@@ -17,7 +19,7 @@ use Rattle.lc_reading.proofs.Files.{says_not_refused}
 use Rattle.lc_reading.specs.Files.{Says, IsFirstRefusal, IsAnswerTo}
 use Rattle.lincheck.specs.Answers.{ToldFault}
 use Rattle.lc_words.specs.Tasks.{CheckCertificate}
-use Rattle.lincheck.specs.Check.{TellsRefusal, AnswersDevelopment, AnswersCertificate, AnswersCheck, TellsVerdict, accepted_line}
+use Rattle.lincheck.specs.Check.{TellsRefusal, AnswersDevelopment, AnswersCertificate, AnswersCheck, TellsVerdict, TellsFinished, accepted_line}
 use Rattle.lincheck.specs.Execution.{IsUnread}
 use Rattle.lincheck.specs.Reading.{OfFile, within_limit, most_bytes}
 use Rattle.lincheck.specs.declared.answer.Answer.{Answer}
@@ -67,6 +69,16 @@ pub certificate_answered : (D : S.Development) (known : Option (List ℕ)) (byte
     → OfFile known (λ file. bytes ≡ within_limit file) → seen ≡ bytes → IsVerdictOn D seen verdict → TellsVerdict verdict text status
     → OfFile known (λ file. AnswersCertificate D file text status)
 certificate_answered D known bytes seen verdict text status read same is told = read_so known read (λ file read. verdict_told D file verdict text status (subst (λ b. IsVerdictOn D b verdict) (same ∙ read) is) told)
+
+-- what a session comes to of what is read of it, as it is reported, answers the file
+finished_told : (D : S.Development) (file : List ℕ) (finished : Finished) (text : List ℕ) (status : ℕ) → IsFinishedOn D (within_limit file) finished → TellsFinished finished text status → AnswersCertificate D file text status
+finished_told D file (Proves accepted) text status (same, proven) (is, zero) = inl (proven_of_whole D file proven, is ∙ ap accepted_line same, zero)
+finished_told D file (FailsFor refusal development) text status (same, refuses) told = inr (refusal, refusal_of_certificate D file refusal refuses, told)
+
+pub certificate_finished : (D : S.Development) (known : Option (List ℕ)) (bytes : List ℕ) (finished : Finished) (text : List ℕ) (status : ℕ)
+    → OfFile known (λ file. bytes ≡ within_limit file) → IsFinishedOn D bytes finished → TellsFinished finished text status
+    → OfFile known (λ file. AnswersCertificate D file text status)
+certificate_finished D known bytes finished text status read is told = read_so known read (λ file read. finished_told D file finished text status (subst (λ b. IsFinishedOn D b finished) read is) told)
 
 -- ---- both files
 

@@ -2,11 +2,12 @@
 use Rattle.std.proofs.Common.{◌≡◌, ℕ, ℤ, ◌≤◌, Bool, length, take, List, Option, IfOk, Result, Ok, Err, Vec, refl, subst, ◌∙◌, inl, inr, arith}
 use Rattle.std.proofs.lemmas.List.{take_all, length-take}
 use Rattle.std.specs.declared.alloc.Global.{Global}
+use Rattle.lc_lemmas.proofs.Numbers.{below_or_from}
 use Rattle.lc_base.specs.declared.memory.OutOfMemory.{OutOfMemory}
 use Rattle.lc_base.specs.declared.refusal.Fault.{Fault}
 use Rattle.lc_base.specs.declared.refusal.Fault.TheVariants.{Refused, OutOfMemory as NoMemory}
 use Rattle.lc_base.specs.declared.refusal.Refusal.TheVariants.{Text, Shape, Unknown, Repeated, Auxiliary, Bound, CertText, CertShape, Missing, Extra, Proof, Large, HistoryShape, Order}
-use Rattle.lc_hist.specs.History.{Event, Entry}
+use Rattle.lc_history.specs.History.{Event, Entry}
 use Rattle.lc_hist.specs.JsonHistories.{IsRefusedAt}
 use Rattle.lc_hist.specs.JsonRecorded.{SaysRecorded, IsWrongRecordedItem}
 use Rattle.lc_order.specs.declared.deciding.Decision.{Decision}
@@ -14,11 +15,10 @@ use Rattle.lc_seq.specs.Specification.{Specification}
 use Rattle.lc_seq.specs.declared.choice.Pick.{Pick}
 use Rattle.lc_seq.specs.declared.text_call.TextCall.{TextCall}
 use Rattle.lincheck.specs.Answers.{ToldFault}
-use Rattle.lincheck.specs.Order.{AnswersOrdered, IsDecision, ToldDecision}
+use Rattle.lincheck.specs.Order.{AnswersOrdered, IsDecision, RefusesRecorded, ToldDecision}
 use Rattle.lincheck.specs.declared.answer.Answer.{Answer}
 use Rattle.lincheck.specs.Reading.{OfFile, within_limit, most_bytes}
 use Rattle.lincheck.proofs.Read.{read_so}
-use Rattle.lincheck.proofs.Truncated.{below_or_from}
 
 -- what is told of a decision answers the text of the history of which it is decided
 pub recorded_told : (check : Bool) (spec : Specification) (bytes : List ℕ) (history : List Event) (given : List Entry) (decision : Decision TextCall Pick (Vec ℤ Global)) (result : Result Answer OutOfMemory)
@@ -27,28 +27,33 @@ pub recorded_told : (check : Bool) (spec : Specification) (bytes : List ℕ) (hi
 recorded_told check spec bytes history given decision (Ok answer) says is told = inl (history, given, decision, says, is, told)
 recorded_told check spec bytes history given decision (Err none) says is told = tt
 
--- and so does what is told of its first item that is wrong
+-- what is told of the first item that is wrong is its refusal
+pub wrong_item_told : (spec : Specification) (bytes text : List ℕ) (status : ℕ) (fault : Fault) → IsRefusedAt (IsWrongRecordedItem spec.operations bytes) fault → ToldFault fault text status
+    → RefusesRecorded spec bytes text status
+wrong_item_told spec bytes text status NoMemory wrong told = absurd told
+wrong_item_told spec bytes text status (Refused (HistoryShape item)) wrong told = (item, wrong, told)
+wrong_item_told spec bytes text status (Refused (Text n)) wrong told = absurd wrong
+wrong_item_told spec bytes text status (Refused (Shape n)) wrong told = absurd wrong
+wrong_item_told spec bytes text status (Refused (Unknown n)) wrong told = absurd wrong
+wrong_item_told spec bytes text status (Refused (Repeated n)) wrong told = absurd wrong
+wrong_item_told spec bytes text status (Refused (Auxiliary n)) wrong told = absurd wrong
+wrong_item_told spec bytes text status (Refused (Bound n)) wrong told = absurd wrong
+wrong_item_told spec bytes text status (Refused (CertText n)) wrong told = absurd wrong
+wrong_item_told spec bytes text status (Refused (CertShape n)) wrong told = absurd wrong
+wrong_item_told spec bytes text status (Refused (Missing n)) wrong told = absurd wrong
+wrong_item_told spec bytes text status (Refused (Extra n)) wrong told = absurd wrong
+wrong_item_told spec bytes text status (Refused (Proof k n r)) wrong told = absurd wrong
+wrong_item_told spec bytes text status (Refused (Large k n)) wrong told = absurd wrong
+wrong_item_told spec bytes text status (Refused (Order k r)) wrong told = absurd wrong
+
+-- and it answers the text of the history
 pub recorded_refused : (check : Bool) (spec : Specification) (bytes : List ℕ) (fault : Fault) (result : Result Answer OutOfMemory) → IsRefusedAt (IsWrongRecordedItem spec.operations bytes) fault
     → IfOk result (λ answer. ToldFault fault answer.text.items answer.status) → IfOk result (λ answer. AnswersOrdered check spec bytes answer.text.items answer.status)
 recorded_refused check spec bytes fault (Err none) wrong told = tt
-recorded_refused check spec bytes NoMemory (Ok answer) wrong told = absurd told
-recorded_refused check spec bytes (Refused (HistoryShape item)) (Ok answer) wrong told = inr (item, wrong, told)
-recorded_refused check spec bytes (Refused (Text n)) (Ok answer) wrong told = absurd wrong
-recorded_refused check spec bytes (Refused (Shape n)) (Ok answer) wrong told = absurd wrong
-recorded_refused check spec bytes (Refused (Unknown n)) (Ok answer) wrong told = absurd wrong
-recorded_refused check spec bytes (Refused (Repeated n)) (Ok answer) wrong told = absurd wrong
-recorded_refused check spec bytes (Refused (Auxiliary n)) (Ok answer) wrong told = absurd wrong
-recorded_refused check spec bytes (Refused (Bound n)) (Ok answer) wrong told = absurd wrong
-recorded_refused check spec bytes (Refused (CertText n)) (Ok answer) wrong told = absurd wrong
-recorded_refused check spec bytes (Refused (CertShape n)) (Ok answer) wrong told = absurd wrong
-recorded_refused check spec bytes (Refused (Missing n)) (Ok answer) wrong told = absurd wrong
-recorded_refused check spec bytes (Refused (Extra n)) (Ok answer) wrong told = absurd wrong
-recorded_refused check spec bytes (Refused (Proof k n r)) (Ok answer) wrong told = absurd wrong
-recorded_refused check spec bytes (Refused (Large k n)) (Ok answer) wrong told = absurd wrong
-recorded_refused check spec bytes (Refused (Order k r)) (Ok answer) wrong told = absurd wrong
+recorded_refused check spec bytes fault (Ok answer) wrong told = inr (wrong_item_told spec bytes answer.text.items answer.status fault wrong told)
 
 -- a file beyond the limit says nothing, nor does its beginning, so item 0 is wrong in both
-wrong_of_long : (spec : Specification) (n : ℕ) (file : List ℕ) (item : ℕ) → n ≡ most_bytes → n ≤ length file → IsWrongRecordedItem spec.operations (take n file) item
+pub wrong_of_long : (spec : Specification) (n : ℕ) (file : List ℕ) (item : ℕ) → n ≡ most_bytes → n ≤ length file → IsWrongRecordedItem spec.operations (take n file) item
     → IsWrongRecordedItem spec.operations file item
 wrong_of_long spec n file item e long (inl (is, none)) = inl (is, λ parts has. omega (arith, has.limit))
 wrong_of_long spec n file item e long (inr (parts, has, wrong)) = absurd (omega (arith, length-take n file, has.limit))

@@ -1,5 +1,5 @@
 -- What a development's file and a file of hints are answered, from the beginnings of them that are read.
-use Rattle.std.proofs.Common.{◌≡◌, ℕ, List, [], length, Option, Some, None, IfOk, IfErr, Result, Ok, Err, sym, subst, ◌∙◌, inl, inr}
+use Rattle.std.proofs.Common.{◌≡◌, ℕ, List, [], length, Option, IfOk, IfErr, Result, Ok, Err, sym, subst, ◌∙◌, inl, inr}
 use Rattle.lc_base.specs.declared.refusal.Fault.{Fault}
 use Rattle.lc_base.specs.declared.refusal.Fault.TheVariants.{Refused, OutOfMemory}
 use Rattle.lc_cert.specs.CertificateView.{entries_in}

@@ -1,5 +1,5 @@
 -- What a development's file, its certificate's and a plan's are answered, from the beginnings of them that are read.
-use Rattle.std.proofs.Common.{◌≡◌, ℕ, ℤ, List, [], ◌∷◌, ◌++◌, codes, flat_map, length, Option, Some, None, IfOk, Result, Ok, Err, Vec, sym, ap, ap₂, subst, ◌∙◌, inl, inr}
+use Rattle.std.proofs.Common.{◌≡◌, ℕ, ℤ, List, [], ◌∷◌, ◌++◌, codes, flat_map, length, Option, IfOk, Result, Ok, Err, Vec, sym, ap, ap₂, subst, ◌∙◌, inl, inr}
 use Rattle.std.proofs.lemmas.List.{length-map}
 use Rattle.std.specs.declared.alloc.Global.{Global}
 use Rattle.lc_base.specs.Line.{line_of}
@@ -9,16 +9,16 @@ use Rattle.lc_base.specs.declared.refusal.Refusal.{Refusal}
 use Rattle.lc_cert.specs.Readings.{certificate_reading}
 use Rattle.lc_check.proofs.OneVerdict.{not_certified_and_refused}
 use Rattle.lc_check.specs.VerdictView.{IsVerdictOn, development_in}
-use Rattle.lc_check.specs.Verdicts.{IsCertificateRefusal, IsProvenBy}
+use Rattle.lc_check.specs.Verdicts.{IsProvenBy}
 use Rattle.lc_check.specs.declared.verdict.Accepted.{Accepted}
 use Rattle.lc_check.specs.declared.verdict.Verdict.TheVariants.{Accepted as accepts, Refused as refuses}
 use Rattle.lc_crew.specs.Ran.{IsRunOf}
 use Rattle.lc_crew.specs.declared.ended.Ended.{Ended}
 use Rattle.lc_crew.specs.declared.plan.Ran.{Ran}
-use Rattle.lc_hist.specs.Histories.{events_in}
-use Rattle.lc_hist.specs.JsonHistories.{entries_view, entry_view}
+use Rattle.lc_history.specs.Histories.{events_in}
+use Rattle.lc_history.specs.View.{entries_view, entry_view}
 use Rattle.lc_hist.specs.JsonWritten.{history_text}
-use Rattle.lc_hist.specs.declared.event.Done.{Done}
+use Rattle.lc_history.specs.declared.event.Done.{Done}
 use Rattle.lc_outline.specs.Development.{Development}
 use Rattle.lc_outline_text.specs.Developments.{file_reading}
 use Rattle.lc_plan.specs.Plans as S

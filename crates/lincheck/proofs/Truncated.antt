@@ -1,6 +1,7 @@
 -- A file and its beginning, up to one byte beyond the file limit, have the same readings and the same first fault.
-use Rattle.std.proofs.Common.{◌≡◌, ℕ, zero, suc, ◌<◌, ◌≤◌, ◌==◌, ◌||◌, if◌then◌else◌, Bool, true, false, true≢false, ◌⊎◌, inl, inr, List, [], ◌∷◌, length, take, Option, Some, None, slice_get, refl, sym, ap, ap₂, ◌∙◌, subst, arith}
+use Rattle.std.proofs.Common.{◌≡◌, ℕ, zero, suc, ◌<◌, ◌≤◌, ◌==◌, ◌||◌, if◌then◌else◌, Bool, true, false, true≢false, inl, inr, List, [], ◌∷◌, length, take, Option, Some, None, slice_get, refl, sym, ap, ap₂, ◌∙◌, subst, arith}
 use Rattle.std.proofs.lemmas.List.{take_all, length-take}
+use Rattle.lc_lemmas.proofs.Numbers.{below_or_from}
 use Rattle.lc_sexp.specs.Reads.{ReadsAs, IsFirstFault, text_of, is_wrong_at, is_wrong, open_count}
 use Rattle.lc_sexp.specs.Text.{uncommented}
 use Rattle.lc_sexp.specs.Trees.{Trees}
@@ -9,6 +10,7 @@ use Rattle.lc_base.specs.Limits.{file_limit}
 use Rattle.lc_reading.specs.Files.{Says, IsFirstRefusal}
 use Rattle.lc_reading.specs.Readings.{Reading}
 use Rattle.lincheck.specs.Reading.{within_limit, most_bytes}
+use Rattle.lc_sexp.proofs.Faults.{length-uncommented}
 
 take-take : (k n : ℕ) (l : List ℕ) → k ≤ n → take k (take n l) ≡ take k l
 take-take zero n l h = refl
@@ -47,15 +49,6 @@ is_wrong_at-take n k bytes h =
     let here : slice_get (text_of (take n bytes)) k ≡ slice_get (text_of bytes) k = ap (λ l. slice_get l k) text ∙ slice_get-take k n (text_of bytes) h in
     ap₂ (λ d b. is_wrong k d b) (ap open_count before) here
 
-length-byte_before : (n : ℕ) (t u : Bool) (b : ℕ) (rest : Bool → List ℕ) → ((c : Bool) → length (rest c) ≡ n) → length (byte_before t u b rest) ≡ suc n
-length-byte_before n true u b rest same = ap suc (same false)
-length-byte_before n false true b rest same = ap suc (same true)
-length-byte_before n false false b rest same = ap suc (same false)
-
-length-uncommented : (c : Bool) (bytes : List ℕ) → length (uncommented c bytes) ≡ length bytes
-length-uncommented c [] = refl
-length-uncommented c (b ∷ s) = length-byte_before (length s) (b == 10) (c || b == 59) b (λ d. uncommented d s) (λ d. length-uncommented d s)
-
 -- the byte beyond the limit is wrong
 wrong_byte : (depth : ℕ) (byte : Option ℕ) (b : ℕ) → byte ≡ Some b → is_wrong file_limit depth byte ≡ true
 wrong_byte depth None b e = cc
@@ -70,11 +63,6 @@ wrong_at_limit : (bytes : List ℕ) → file_limit < length bytes → is_wrong_a
 wrong_at_limit bytes h =
     let b = there (text_of bytes) file_limit (omega (arith, length-uncommented false bytes)) in
     wrong_byte (open_count (take file_limit (text_of bytes))) (slice_get (text_of bytes) file_limit) b.0 b.1
-
-pub below_or_from : (j k : ℕ) → (j < k) ⊎ (k ≤ j)
-below_or_from j zero = inr (omega arith)
-below_or_from zero (suc k) = inl (omega arith)
-below_or_from (suc j) (suc k) = elim (below_or_from j k) [ inl h ↦ inl (omega arith) | inr h ↦ inr (omega arith) ]
 
 -- the first fault of a longer file is at the limit at the latest
 within : (bytes : List ℕ) (offset : ℕ) → file_limit < length bytes → IsFirstFault bytes offset → offset ≤ file_limit

@@ -5,6 +5,8 @@ use Rattle.lc_base.specs.declared.refusal.Fault.TheVariants.{Refused}
 use Rattle.lc_base.specs.declared.refusal.Refusal.{Refusal}
 use Rattle.lc_check.specs.Verdicts.{IsProvenBy, IsCertificateRefusal}
 use Rattle.lc_check.specs.VerdictView.{development_in}
+use Rattle.lc_check.specs.declared.verdict.Finished.{Finished}
+use Rattle.lc_check.specs.declared.verdict.Finished.TheVariants.{Accepted as Proves, Refused as FailsFor}
 use Rattle.lc_check.specs.declared.verdict.Verdict.{Verdict}
 use Rattle.lc_check.specs.declared.verdict.Verdict.TheVariants.{Accepted, Refused as IsRefused}
 use Rattle.lc_cond.specs.Conditions.{conditions}
@@ -45,6 +47,11 @@ AnswersCertificate D file text status =
 abbrev pub TellsVerdict : Verdict → List ℕ → ℕ → Type 0
 TellsVerdict (Accepted accepted) text status = (text ≡ accepted_line (development_in accepted)) × (status ≡ 0)
 TellsVerdict (IsRefused refusal) text status = ToldFault (Refused refusal) text status
+
+-- what a session comes to is reported so too
+abbrev pub TellsFinished : Finished → List ℕ → ℕ → Type 0
+TellsFinished (Proves accepted) text status = (text ≡ accepted_line (development_in accepted)) × (status ≡ 0)
+TellsFinished (FailsFor refusal development) text status = ToldFault (Refused refusal) text status
 
 -- The answer to a development's file and a certificate's: a refusal of the development decides, whatever the other file has
 abbrev pub AnswersCheck : List ℕ → Option (List ℕ) → List ℕ → ℕ → Type 0

@@ -3,8 +3,8 @@ use Rattle.std.specs.Prelude.{◌≡◌, ℕ, ◌⊎◌, Bool, true, false, code
 use Rattle.lc_base.specs.Line.{line_of}
 use Rattle.lc_base.specs.declared.refusal.Fault.TheVariants.{Refused}
 use Rattle.lc_base.specs.declared.refusal.Refusal.TheVariants.{Extra}
-use Rattle.lc_listing.specs.Chosen.{chosen_text, is_point_word}
-use Rattle.lc_listing.specs.Shown.{IsLaidLine, line_at}
+use Rattle.lc_cond_text.specs.Chosen.{chosen_text, is_point_word}
+use Rattle.lc_cond_text.specs.Shown.{IsLaidLine, line_at}
 use Rattle.lc_outline.specs.Development.{Development}
 use Rattle.lc_outline_text.specs.Developments.{file_reading}
 use Rattle.lc_reading.specs.Files.{Says}

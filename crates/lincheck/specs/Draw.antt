@@ -1,22 +1,47 @@
 -- The answer to a development's file and a history's, if the history is to be drawn.
-use Rattle.std.specs.Prelude.{◌≡◌, ℕ, ◌⊎◌, List, Option}
-use Rattle.lc_base.specs.declared.refusal.Fault.TheVariants.{Refused}
-use Rattle.lc_base.specs.declared.refusal.Refusal.TheVariants.{HistoryShape}
+use Rattle.std.specs.Prelude.{◌≡◌, ℕ, ◌⊎◌, List, [], ◌∷◌, ℤ, Option, Some, None, Vec}
+use Rattle.std.specs.declared.alloc.Global.{Global}
 use Rattle.lc_draw.specs.Drawings.{IsDrawing}
-use Rattle.lc_hist.specs.History.{Event, Entry}
-use Rattle.lc_hist.specs.JsonHistories.{SaysHistory, IsWrongItem}
+use Rattle.lc_history.specs.History.{Event, Entry}
+use Rattle.lc_history.specs.View.{entries_view}
+use Rattle.lc_hist.specs.JsonRecorded.{SaysRecorded}
+use Rattle.lc_order.specs.declared.deciding.Decision.{Decision}
+use Rattle.lc_order.specs.declared.deciding.Decision.TheVariants.{Order, NotLinearizable, Unknown, Overflow, Budget}
 use Rattle.lc_seq.specs.Specification.{Specification}
-use Rattle.lincheck.specs.Answers.{ToldFault}
+use Rattle.lc_seq.specs.declared.choice.Pick.{Pick}
+use Rattle.lc_seq.specs.declared.text_call.TextCall.{TextCall}
 use Rattle.lincheck.specs.Judge.{AnswersBoth}
+use Rattle.lincheck.specs.Order.{IsDecision, RefusesRecorded}
 
--- the text draws the history and the order that the bytes say
+-- the order that is found, if one is
+abbrev pub order_found : Decision TextCall Pick (Vec ℤ Global) → List Entry
+order_found (Order order) = entries_view order.items
+order_found (NotLinearizable front) = []
+order_found Unknown = []
+order_found Overflow = []
+order_found Budget = []
+
+-- the number of first events that no order linearizes, if it is found
+abbrev pub front_found : Decision TextCall Pick (Vec ℤ Global) → Option ℕ
+front_found (Order order) = None
+front_found (NotLinearizable front) = Some front
+front_found Unknown = None
+front_found Overflow = None
+front_found Budget = None
+
+-- the text draws the history with the order that is given; if none is, with what is decided of it
+abbrev pub DrawsGiven : Specification → List Event → List Entry → List ℕ → Type 0
+DrawsGiven spec history (entry ∷ order) text = IsDrawing history (entry ∷ order) None text
+DrawsGiven spec history [] text =
+    (decision : Decision TextCall Pick (Vec ℤ Global)) × IsDecision spec history decision × IsDrawing history (order_found decision) (front_found decision) text
+
+-- the text draws the history that the bytes say
 abbrev pub DrawsSaid : Specification → List ℕ → List ℕ → Type 0
-DrawsSaid spec bytes text = (history : List Event) × (order : List Entry) × SaysHistory spec.operations bytes history order × IsDrawing history order text
+DrawsSaid spec bytes text = (history : List Event) × (given : List Entry) × SaysRecorded spec.operations bytes history given × DrawsGiven spec history given text
 
 -- The answer to a history's file, by a specification: its drawing, and status 0; or the refusal with the first item that is wrong
 abbrev pub AnswersDrawn : Specification → List ℕ → List ℕ → ℕ → Type 0
-AnswersDrawn spec file text status =
-    (DrawsSaid spec file text × (status ≡ 0)) ⊎ ((item : ℕ) × IsWrongItem spec.operations file item × ToldFault (Refused (HistoryShape item)) text status)
+AnswersDrawn spec file text status = (DrawsSaid spec file text × (status ≡ 0)) ⊎ RefusesRecorded spec file text status
 
 -- The answer to a development's file and a history's
 abbrev pub AnswersDraw : List ℕ → Option (List ℕ) → List ℕ → ℕ → Type 0

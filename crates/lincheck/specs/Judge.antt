@@ -5,13 +5,13 @@ use Rattle.lc_base.specs.declared.refusal.Fault.{Fault}
 use Rattle.lc_base.specs.declared.refusal.Fault.TheVariants.{Refused, OutOfMemory}
 use Rattle.lc_base.specs.declared.refusal.Refusal.{Refusal}
 use Rattle.lc_base.specs.declared.refusal.Refusal.TheVariants.{HistoryShape, Order}
-use Rattle.lc_hist.specs.History.{Event, Entry, IsLinearizable}
+use Rattle.lc_history.specs.History.{Event, Entry, IsLinearizable}
 use Rattle.lc_hist.specs.JsonHistories.{SaysHistory, IsWrongItem}
-use Rattle.lc_hist.specs.Judged.{IsJudged}
-use Rattle.lc_hist.specs.Reason.{code_of}
-use Rattle.lc_hist.specs.declared.reason.Reason.{Reason}
-use Rattle.lc_hist.specs.declared.judging.JudgeFault as F
-use Rattle.lc_hist.specs.declared.judging.JudgeFault.TheVariants as V
+use Rattle.lc_history.specs.Judged.{IsJudged}
+use Rattle.lc_history.specs.Reason.{code_of}
+use Rattle.lc_history.specs.declared.reason.Reason.{Reason}
+use Rattle.lc_history.specs.declared.judging.JudgeFault as F
+use Rattle.lc_history.specs.declared.judging.JudgeFault.TheVariants as V
 use Rattle.lc_reading.specs.Files.{Says, IsFirstRefusal}
 use Rattle.lc_spec_text.specs.Specifications.{first_reading}
 use Rattle.lc_seq.specs.Specification.{Specification}

@@ -9,6 +9,7 @@ pub mod Condition
 pub mod Lines
 pub mod New
 pub mod Order
+pub mod Complete
 pub mod Carry
 pub mod Prove
 pub mod Library

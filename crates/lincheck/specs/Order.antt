@@ -4,8 +4,8 @@ use Rattle.std.specs.declared.alloc.Global.{Global}
 use Rattle.lc_base.specs.Line.{line_of}
 use Rattle.lc_base.specs.declared.refusal.Fault.TheVariants.{Refused}
 use Rattle.lc_base.specs.declared.refusal.Refusal.TheVariants.{HistoryShape}
-use Rattle.lc_hist.specs.History.{Event, Entry}
-use Rattle.lc_hist.specs.JsonHistories.{entries_view}
+use Rattle.lc_history.specs.History.{Event, Entry}
+use Rattle.lc_history.specs.View.{entries_view}
 use Rattle.lc_hist.specs.JsonRecorded.{SaysRecorded, IsWrongRecordedItem}
 use Rattle.lc_hist.specs.JsonWritten.{history_text}
 use Rattle.lc_order.specs.Decided.{IsDecided}
@@ -42,10 +42,13 @@ TellsRecorded check spec file text status =
     (history : List Event) × (given : List Entry) × (decision : Decision TextCall Pick (Vec ℤ Global)) × SaysRecorded spec.operations file history given
     × IsDecision spec history decision × ToldDecision check spec.operations history decision text status
 
--- the answer to a history's file, by a specification: what is decided; or the refusal that tells the first item that is wrong
+-- the refusal tells the first item that is wrong in the text of a recorded history
+abbrev pub RefusesRecorded : Specification → List ℕ → List ℕ → ℕ → Type 0
+RefusesRecorded spec file text status = (item : ℕ) × IsWrongRecordedItem spec.operations file item × ToldFault (Refused (HistoryShape item)) text status
+
+-- the answer to a history's file, by a specification: what is decided; or the refusal
 abbrev pub AnswersOrdered : (check : Bool) → Specification → List ℕ → List ℕ → ℕ → Type 0
-AnswersOrdered check spec file text status =
-    TellsRecorded check spec file text status ⊎ ((item : ℕ) × IsWrongRecordedItem spec.operations file item × ToldFault (Refused (HistoryShape item)) text status)
+AnswersOrdered check spec file text status = TellsRecorded check spec file text status ⊎ RefusesRecorded spec file text status
 
 -- The answer to a development's file and a history's
 abbrev pub AnswersOrder : (check : Bool) → List ℕ → Option (List ℕ) → List ℕ → ℕ → Type 0

@@ -1,7 +1,7 @@
 -- What a task leaves on standard output.
 use Rattle.std.specs.Prelude.{◌≡◌, ℕ, ◌⊎◌, List, ◌++◌, Option, Result, Ok, Err}
 use Rattle.std.specs.Io.KnownBytes.{Keeps, Appends}
-use Rattle.lc_words.specs.Tasks.{Task, CheckFormula, JudgeHistory, ShowDevelopment, ShowLines, ListConditions, ListChosen, ShowCondition, CheckByWorkers, CheckCertificate, ProveDevelopment, ProveWithHints, DrawHistory, BeginDevelopment, PrintLibrary, CarryCertificate, CarryWithHints, RunPlan, FindOrder}
+use Rattle.lc_words.specs.Tasks.{Task, CheckFormula, JudgeHistory, ShowDevelopment, ShowLines, ListConditions, ListChosen, ShowCondition, CheckByWorkers, CheckCertificate, ProveDevelopment, ProveWithHints, DrawHistory, BeginDevelopment, PrintLibrary, CarryCertificate, CarryWithHints, RunPlan, FindOrder, MakeWhole}
 use Rattle.lincheck.specs.declared.answer.Failure.{Failure}
 use Rattle.lincheck.specs.declared.answer.Failure.TheVariants.{CannotRead, CannotWrite, OutOfMemory}
 
@@ -40,6 +40,7 @@ IsInPieces (DrawHistory development history) = ⊥
 IsInPieces (BeginDevelopment name) = ⊥
 IsInPieces (PrintLibrary lib text) = ⊥
 IsInPieces (FindOrder development history check budget) = ⊥
+IsInPieces (MakeWhole short budget) = ⊥
 
 -- an answer is printed, and its status answered; else nothing is, or of an answer that is printed as it is made a beginning,
 -- unless writing it failed

@@ -12,9 +12,9 @@ use Rattle.lc_crew.specs.Ran.{IsOrdered}
 use Rattle.lc_crew.specs.declared.ended.Ended.{Ended}
 use Rattle.lc_crew.specs.declared.halt.Halt.{Halt}
 use Rattle.lc_crew.specs.declared.plan.Ran.{Ran}
-use Rattle.lc_hist.specs.Histories.{events_in}
-use Rattle.lc_hist.specs.History.{Event, Entry}
-use Rattle.lc_hist.specs.JsonHistories.{entries_view}
+use Rattle.lc_history.specs.Histories.{events_in}
+use Rattle.lc_history.specs.History.{Event, Entry}
+use Rattle.lc_history.specs.View.{entries_view}
 use Rattle.lc_hist.specs.JsonWritten.{history_text}
 use Rattle.lc_outline.specs.Development.{Development}
 use Rattle.lc_outline_text.specs.Developments.{file_reading}

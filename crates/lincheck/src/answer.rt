@@ -34,6 +34,12 @@ pub enum Why {
     Unfound(u64),
     /// No order linearizes this many first events of a history.
     Unordered(u64),
+    /// No order of a history was found, and of a call not all choices were tried.
+    UntriedChoices,
+    /// No order of a history was found, and where a call was tried a number left 64 bits.
+    Overflow,
+    /// The search for an order of a history was given up; it was to look at this many nodes at most.
+    GivenUp(u64),
     /// The development has no point of the name that is asked for.
     NoPoint,
 }

@@ -4,20 +4,20 @@ ghost use Rattle.lc_sexp.specs.Pieces.{WasFed};
 ghost use Rattle.lc_reading.specs.Files.{IsAnswerTo};
 ghost use Rattle.lc_outline.specs.DevelopmentView.{development_view};
 ghost use Rattle.lc_outline_text.specs.Developments.{file_reading};
-ghost use Rattle.lc_check.specs.VerdictView.{IsVerdictOn, development_in};
+ghost use Rattle.lc_check.specs.VerdictView.{development_in};
 ghost use Rattle.lc_words.specs.Tasks.{CheckCertificate};
-ghost use Rattle.lincheck.specs.Check.{AnswersCertificate, AnswersCheck, OpensAs, TellsVerdict, accepted_line};
+ghost use Rattle.lincheck.specs.Check.{AnswersCertificate, AnswersCheck, OpensAs, TellsFinished, TellsVerdict, accepted_line};
 ghost use Rattle.lincheck.specs.Execution.{IsUnread};
 ghost use Rattle.lincheck.specs.Reading.{OfFile};
 
 use crate::answer::{Answer, Failure, SUCCESS, told_fault};
 use crate::files::Files;
-use crate::reading::{feed_file, feed_forms, read_file};
-use crate::telling::{Counting, Telling};
+use crate::reading::{feed_file, feed_forms};
+use crate::sink::Proving;
+use crate::telling::{Noting, Telling};
 use crate::workers::answer_by_workers;
 use lc_base::{Fault, OutOfMemory, write_line};
-use lc_check::{Accepted, CertificateSession, Verdict, proven_count_by, verdict_by_count};
-use lc_cond::Numbering;
+use lc_check::{Accepted, CertificateSession, Finished, Verdict};
 use lc_outline::Development;
 use lc_outline_text::development_in;
 use lc_sexp::FormsReader;
@@ -76,51 +76,45 @@ pub(crate) fn tell_verdict(alloc: Global, verdict: &Verdict) -> Result<Answer, O
     }
 }
 
+/// What a session comes to, reported by its line and status.
+pub(crate) fn tell_finished(alloc: Global, finished: &Finished) -> Result<Answer, OutOfMemory>
+    ensures { IfOk result (λ answer. TellsFinished finished.now answer.text.items answer.status) }
+{
+    match finished {
+        Finished::Accepted(accepted) => Ok(Answer {
+            text: accepted_line(alloc, accepted)?,
+            status: SUCCESS,
+            why: None,
+        }),
+        Finished::Refused(refusal, _) => told_fault(alloc, Fault::Refused(*refusal)),
+    }
+}
+
 /// The answer to the certificate at a path, of a development. Its proofs are checked as they are read.
-fn answer_certificate<'a, F: Files>(
+fn answer_certificate<'a, F: Files, E: Write>(
     alloc: Global,
     files: &mut F,
     development: Development,
     path: &'a str,
+    telling: &mut Telling<'_, E>,
 ) -> Result<Answer, Failure<'a>>
     ensures unread { F.CannotOpen files.old path.now → IsErr result }
     ensures answers { IfOk result (λ answer. OfFile (F.bytes_at files.old path.now) (λ file. AnswersCertificate (development_view development) file answer.text.items answer.status)) }
 {
-    let mut session = CertificateSession::new(alloc, development)?;
-    feed_file(files, path, &mut session)?;
-    let verdict = session.finish()?;
-    Ok(tell_verdict(alloc, &verdict)?)
-}
-
-/// The verdict on a development and a certificate file; and says how many conditions are proved.
-fn counted_verdict<E: Write>(
-    alloc: Global,
-    development: Development,
-    cert: &[u8],
-    err: &mut E,
-) -> Result<Verdict, OutOfMemory>
-    ensures { IfOk result (IsVerdictOn (development_view development) cert.now) }
-{
-    let total = Numbering::new(alloc, &development)?.count();
-    let mut counting = Counting { err, total, due: 0 };
-    let count = proven_count_by(alloc, &development, &mut counting, cert);
-    verdict_by_count(development, cert, count)
-}
-
-/// The answer to the certificate at a path, of a development; and says how many conditions are proved. The file is held whole.
-fn answer_counted<'a, F: Files, E: Write>(
-    alloc: Global,
-    files: &mut F,
-    development: Development,
-    path: &'a str,
-    err: &mut E,
-) -> Result<Answer, Failure<'a>>
-    ensures unread { F.CannotOpen files.old path.now → IsErr result }
-    ensures answers { IfOk result (λ answer. OfFile (F.bytes_at files.old path.now) (λ file. AnswersCertificate (development_view development) file answer.text.items answer.status)) }
-{
-    let cert = read_file(alloc, files, path)?;
-    let verdict = counted_verdict(alloc, development, &cert, err)?;
-    Ok(tell_verdict(alloc, &verdict)?)
+    let (is_asked, is_kept) = (telling.is_asked, telling.is_kept);
+    let prover = Noting::new(alloc, &development, &mut *telling.err, is_asked, is_kept)?;
+    let session = CertificateSession::new(alloc, development)?;
+    let mut proving = Proving { session, prover };
+    feed_file(files, path, &mut proving)?;
+    let Proving {
+        session,
+        mut prover,
+    } = proving;
+    let finished = session.finish_by(&mut prover)?;
+    let flaw = prover.flaw();
+    let answer = tell_finished(alloc, &finished)?;
+    telling.heard.keep_finished(finished, flaw);
+    Ok(answer)
 }
 
 /// The answer to the certificate at a path, of a development, by `workers` workers, if a number is given; and says how many
@@ -137,12 +131,11 @@ fn answer_said<'a, R: Threads + Wait + Sync, F: Files, E: Write>(
     ensures unread { F.CannotOpen files.old path.now → IsErr result }
     ensures answers { IfOk result (λ answer. OfFile (F.bytes_at files.old path.now) (λ file. AnswersCertificate (development_view development) file answer.text.items answer.status)) }
 {
-    if telling.is_asked {
-        return answer_counted(alloc, files, development, path, telling.err);
-    }
     match workers {
-        None | Some(1) => answer_certificate(alloc, files, development, path),
-        Some(workers) => answer_by_workers(rt, alloc, files, development, path, workers),
+        Some(workers) if workers != 1 && !telling.is_asked => {
+            answer_by_workers(rt, alloc, files, development, path, workers)
+        }
+        _ => answer_certificate(alloc, files, development, path, telling),
     }
 }
 

@@ -9,7 +9,7 @@ use crate::answer::{Answer, Failure, REFUSED, SUCCESS, Why, told_fault};
 use crate::check::open_development;
 use crate::files::Files;
 use lc_base::{Fault, OutOfMemory, Refusal, write_line};
-use lc_listing::{chosen_conditions, condition_over_lines, is_point_word};
+use lc_cond_text::{chosen_conditions, condition_over_lines, is_point_word};
 use lc_outline::Development;
 use std::alloc::Global;
 

@@ -1,46 +1,86 @@
 //! The command `draw`.
 ghost use Rattle.std.specs.Prelude.{◌≡◌, IfOk, IsErr};
 ghost use Rattle.lc_draw.specs.Drawings.{IsDrawing};
-ghost use Rattle.lc_hist.specs.Histories.{events_in};
-ghost use Rattle.lc_hist.specs.JsonHistories.{entries_view};
+ghost use Rattle.lc_history.specs.Histories.{events_in};
+ghost use Rattle.lc_history.specs.View.{entries_view};
 ghost use Rattle.lc_seq.specs.TextView.{specification_of};
 ghost use Rattle.lc_words.specs.Tasks.{DrawHistory};
-ghost use Rattle.lincheck.specs.Draw.{AnswersDraw, AnswersDrawn};
+ghost use Rattle.lincheck.specs.Draw.{AnswersDraw, AnswersDrawn, DrawsGiven, front_found, order_found};
 ghost use Rattle.lincheck.specs.Execution.{IsUnread};
 ghost use Rattle.lincheck.specs.Reading.{OfFile};
 
-use crate::answer::{Answer, Failure, SUCCESS, told_fault};
+use crate::answer::{Answer, Failure, SUCCESS, Why, told_fault};
 use crate::files::Files;
 use crate::judge::spec_fed;
+use crate::order::{BUDGET, why_of};
 use crate::reading::{feed_forms, read_file};
 use lc_base::OutOfMemory;
 use lc_draw::drawing;
-use lc_hist::{Done, History, history_from_json};
+use lc_hist::recorded_from_json;
+use lc_history::{Done, History};
+use lc_order::{Decision, decide};
 use lc_seq::{Pick, TextCall, TextSpec};
 use std::alloc::Global;
 
-/// The drawing of a history with an order.
+/// The drawing of a history with an order, and with the number of first events that no order linearizes, if it is known.
 fn drawn(
     alloc: Global,
     spec: &TextSpec,
     history: &History,
     order: &[Done<TextCall, Pick, Vec<i64>>],
+    front: Option<usize>,
+    why: Option<Why>,
 ) -> Result<Answer, OutOfMemory>
-    ensures { IfOk result (λ answer. IsDrawing (events_in history.now) (entries_view order.now) answer.text.items × (answer.status ≡ 0)) }
+    ensures { IfOk result (λ answer. IsDrawing (events_in history.now) (entries_view order.now) front answer.text.items × (answer.status ≡ 0)) }
 {
     Ok(Answer {
-        text: drawing(alloc, spec, history, order)?.into_bytes(),
+        text: drawing(alloc, spec, history, order, front)?.into_bytes(),
         status: SUCCESS,
-        why: None,
+        why,
     })
+}
+
+/// The drawing of a history of which this is decided.
+fn decision_drawn(
+    alloc: Global,
+    spec: &TextSpec,
+    history: &History,
+    decision: &Decision<TextCall, Pick, Vec<i64>>,
+) -> Result<Answer, OutOfMemory>
+    ensures { IfOk result (λ answer. IsDrawing (events_in history.now) (order_found decision.now) (front_found decision.now) answer.text.items × (answer.status ≡ 0)) }
+{
+    let why = why_of(decision, BUDGET);
+    match decision {
+        Decision::Order(order) => drawn(alloc, spec, history, order, None, why),
+        Decision::NotLinearizable(front) => drawn(alloc, spec, history, &[], Some(*front), why),
+        Decision::Unknown | Decision::Overflow | Decision::Budget => {
+            drawn(alloc, spec, history, &[], None, why)
+        }
+    }
+}
+
+/// The drawing of a history with the order that is given; if that has no entries, with what is decided of the history.
+fn given_drawn(
+    alloc: Global,
+    spec: &TextSpec,
+    history: &History,
+    given: &[Done<TextCall, Pick, Vec<i64>>],
+) -> Result<Answer, OutOfMemory>
+    ensures { IfOk result (λ answer. DrawsGiven (specification_of spec.now) (events_in history.now) (entries_view given.now) answer.text.items × (answer.status ≡ 0)) }
+{
+    if given.is_empty() {
+        let decision = decide(alloc, spec, history, Vec::new(alloc), BUDGET)?;
+        return decision_drawn(alloc, spec, history, &decision);
+    }
+    drawn(alloc, spec, history, given, None, None)
 }
 
 /// The picture of the history that a text says, by a specification; else the answer that tells the first item that is wrong.
 fn picture_of(alloc: Global, spec: &TextSpec, bytes: &[u8]) -> Result<Answer, OutOfMemory>
     ensures { IfOk result (λ answer. AnswersDrawn (specification_of spec.now) bytes.now answer.text.items answer.status) }
 {
-    match history_from_json(alloc, spec, bytes) {
-        Ok((history, order)) => drawn(alloc, spec, &history, &order),
+    match recorded_from_json(alloc, spec, bytes) {
+        Ok((history, given)) => given_drawn(alloc, spec, &history, &given),
         Err(fault) => told_fault(alloc, fault),
     }
 }

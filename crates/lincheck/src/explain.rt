@@ -8,7 +8,7 @@ use lc_cond::Numbering;
 use lc_explain::{FileKind, report};
 use lc_explain_cert::{
     Missed, Source, certificate_explanation, condition_explanation, lints, proof_explanation,
-    unfound_conditions, unfound_explanation, unproved_conditions,
+    unfound_conditions, unfound_explanation, unproved_conditions, unused_conjuncts,
 };
 use lc_explain_hist::{history_explanation, recorded_explanation, unordered_explanation};
 use lc_hints::{Hints, hints_of};
@@ -19,6 +19,16 @@ use lc_spec_text::spec_of;
 use lc_words::{Asked, Chosen, Request};
 use std::alloc::Global;
 use std::io::Write;
+
+/// What is said if no order of a history was found, and of a call not all choices were tried.
+const UNTRIED_CHOICES: &str =
+    "no order was found, and nothing is known of the history: a call is open, or does not reply with the numbers \
+of its choice, so that only some of these were tried; an order that you know is looked at, as `\"order\"` in the file";
+
+/// What is said if no order of a history was found, and where a call was tried a number left 64 bits.
+const OVERFLOW: &str =
+    "no order was found, and nothing is known of the history: where some call was tried, a number that the specification \
+reaches left 64 bits; an order that you know is looked at, as `\"order\"` in the file";
 
 /// A file that a command reads.
 #[derive(Clone, Copy)]
@@ -44,6 +54,7 @@ fn first_file(request: Request<'_>) -> Option<NamedFile<'_>> {
         | Request::Check { development, .. }
         | Request::Prove { development, .. }
         | Request::Run { development, .. } => named(development, FileKind::Development),
+        Request::Complete { short, .. } => named(short, FileKind::Development),
         Request::Carry { old, .. } => named(old, FileKind::Development),
         Request::New(_) | Request::Library { .. } => None,
     }
@@ -82,10 +93,35 @@ fn file_at(request: Request<'_>, place: usize) -> Option<NamedFile<'_>> {
     }
 }
 
-/// The development that a text says, if it says one.
-fn development_in(alloc: Global, text: &[u8]) -> Result<Option<Development>, OutOfMemory> {
+/// A development of which something is said.
+#[derive(Drop)]
+enum Spoken<'a> {
+    /// It was kept when the answer was made.
+    Kept(&'a Development),
+    /// It was read once more.
+    Read(Development),
+}
+
+impl Spoken<'_> {
+    fn development(&self) -> &Development {
+        match self {
+            Spoken::Kept(development) => development,
+            Spoken::Read(development) => development,
+        }
+    }
+}
+
+/// The development that was kept; else the one that a text says, if it says one.
+fn known_development<'a>(
+    alloc: Global,
+    heard: &'a Heard,
+    text: &[u8],
+) -> Result<Option<Spoken<'a>>, OutOfMemory> {
+    if let Some(development) = heard.development() {
+        return Ok(Some(Spoken::Kept(development)));
+    }
     match development_of(alloc, text) {
-        Ok(development) => Ok(Some(development)),
+        Ok(development) => Ok(Some(Spoken::Read(development))),
         Err(Fault::Refused(_)) => Ok(None),
         Err(Fault::OutOfMemory) => Err(OutOfMemory),
     }
@@ -100,7 +136,7 @@ fn spec_in(alloc: Global, text: &[u8]) -> Result<Option<TextSpec>, OutOfMemory> 
     }
 }
 
-/// What is said of a history, which was read for the specification in the first file; of one that is only recorded, for `order`.
+/// What is said of a history, which was read for the specification in the first file; for `judge` it has to have an order.
 fn history_told(
     alloc: Global,
     request: Request<'_>,
@@ -112,10 +148,10 @@ fn history_told(
     let Some(spec) = spec_in(alloc, texts.text(0))? else {
         return Ok(None);
     };
-    let text = if matches!(request, Request::Order { .. }) {
-        recorded_explanation(alloc, path, &spec, bytes, refusal)?
-    } else {
+    let text = if matches!(request, Request::Judge { .. }) {
         history_explanation(alloc, path, &spec, bytes, refusal)?
+    } else {
+        recorded_explanation(alloc, path, &spec, bytes, refusal)?
     };
     Ok(Some(text))
 }
@@ -127,14 +163,31 @@ fn unordered_told(
     texts: &Texts,
     count: u64,
 ) -> Result<Option<Vec<u8>>, OutOfMemory> {
-    let Request::Order { history, .. } = request else {
+    let Some(history) = second_file(request) else {
         return Ok(None);
     };
     let Some(spec) = spec_in(alloc, texts.text(0))? else {
         return Ok(None);
     };
-    let text = unordered_explanation(alloc, history, &spec, texts.text(1), count)?;
+    let text = unordered_explanation(alloc, history.path, &spec, texts.text(1), count)?;
     Ok(Some(text))
+}
+
+/// Words of the program itself, on a line.
+fn own_line(alloc: Global, words: &str) -> Result<Option<Vec<u8>>, OutOfMemory> {
+    let text = format!(in alloc; "lincheck: {words}\n")?;
+    Ok(Some(text.into_bytes()))
+}
+
+/// What is said of a search for an order that was given up, over so many nodes at most.
+fn given_up_told(alloc: Global, nodes: u64) -> Result<Option<Vec<u8>>, OutOfMemory> {
+    let text = format!(in alloc;
+        "lincheck: the search for an order was given up, and nothing is known of the history: {nodes} nodes were looked at, as many as \
+        `--budget` of `order` allows, or what is kept of them would take more than a gigabyte\n\
+        lincheck: the object may show only late which of its calls came first; look at fewer events, at whose end no call is open, or at an \
+        order that you know, as `\"order\"` in the file\n"
+    )?;
+    Ok(Some(text.into_bytes()))
 }
 
 /// What is said of a certificate, which was read for the development in `source`.
@@ -144,13 +197,14 @@ fn certificate_told(
     path: &str,
     bytes: &[u8],
     refusal: &Refusal,
+    heard: &Heard,
 ) -> Result<Option<Vec<u8>>, OutOfMemory> {
-    match development_in(alloc, source.bytes)? {
-        Some(development) => {
-            certificate_explanation(alloc, path, source, &development, bytes, refusal)
-        }
-        None => Ok(None),
-    }
+    let Some(spoken) = known_development(alloc, heard, source.bytes)? else {
+        return Ok(None);
+    };
+    let development = spoken.development();
+    let flaw = heard.flaw();
+    certificate_explanation(alloc, path, source, development, bytes, refusal, flaw)
 }
 
 /// The first file that a command reads.
@@ -173,6 +227,7 @@ fn file_told(
     file: NamedFile<'_>,
     bytes: &[u8],
     refusal: &Refusal,
+    heard: &Heard,
 ) -> Result<Option<Vec<u8>>, OutOfMemory> {
     let NamedFile { path, kind } = file;
     if kind == FileKind::History {
@@ -184,7 +239,14 @@ fn file_told(
     match kind {
         FileKind::Formula => proof_explanation(alloc, path, bytes, refusal),
         FileKind::Certificate => {
-            certificate_told(alloc, source_of(request, texts), path, bytes, refusal)
+            certificate_told(
+                alloc,
+                source_of(request, texts),
+                path,
+                bytes,
+                refusal,
+                heard,
+            )
         }
         _ => Ok(None),
     }
@@ -196,12 +258,16 @@ fn refused_told(
     request: Request<'_>,
     texts: &Texts,
     refusal: &Refusal,
+    heard: &Heard,
 ) -> Result<Option<Vec<u8>>, OutOfMemory> {
     let Some(place) = texts.count().checked_sub(1) else {
         return Ok(None);
     };
     match file_at(request, place) {
-        Some(file) => file_told(alloc, request, texts, file, texts.text(place), refusal),
+        Some(file) => {
+            let bytes = texts.text(place);
+            file_told(alloc, request, texts, file, bytes, refusal, heard)
+        }
         None => Ok(None),
     }
 }
@@ -256,18 +322,23 @@ fn sought_told(
         return Ok(None);
     };
     let bytes = texts.text(place);
-    let Some(development) = development_in(alloc, bytes)? else {
+    let Some(spoken) = known_development(alloc, heard, bytes)? else {
         return Ok(None);
     };
+    let development = spoken.development();
     let source = Source { path, bytes };
-    let mut text = lints(alloc, source, &development)?;
+    let mut text = lints(alloc, source, development)?;
+    if let Some(certificate) = heard.certificate() {
+        let said = unused_conjuncts(alloc, source, development, certificate)?;
+        text.extend_from_slice(&said)?;
+    }
     if let Some(number) = unfound {
         let ending = heard.ending();
-        let said = unfound_explanation(alloc, source, &development, number, ending)?;
+        let said = unfound_explanation(alloc, source, development, number, ending)?;
         text.extend_from_slice(&said)?;
     }
     if matches!(request, Request::Carry { .. }) {
-        let said = carried_told(alloc, &development, unfound, heard)?;
+        let said = carried_told(alloc, development, unfound, heard)?;
         text.extend_from_slice(said.as_bytes())?;
     }
     Ok(Some(text))
@@ -278,10 +349,11 @@ fn accepted_told(
     alloc: Global,
     request: Request<'_>,
     texts: &Texts,
+    heard: &Heard,
 ) -> Result<Option<Vec<u8>>, OutOfMemory> {
     let source = source_of(request, texts);
-    match development_in(alloc, source.bytes)? {
-        Some(development) => Ok(Some(lints(alloc, source, &development)?)),
+    match known_development(alloc, heard, source.bytes)? {
+        Some(spoken) => Ok(Some(lints(alloc, source, spoken.development())?)),
         None => Ok(None),
     }
 }
@@ -291,12 +363,13 @@ fn condition_told(
     alloc: Global,
     request: Request<'_>,
     texts: &Texts,
+    heard: &Heard,
     number: u64,
 ) -> Result<Option<Vec<u8>>, OutOfMemory> {
     let source = source_of(request, texts);
-    match development_in(alloc, source.bytes)? {
-        Some(development) => {
-            let text = condition_explanation(alloc, source, &development, number)?;
+    match known_development(alloc, heard, source.bytes)? {
+        Some(spoken) => {
+            let text = condition_explanation(alloc, source, spoken.development(), number)?;
             Ok(Some(text))
         }
         None => Ok(None),
@@ -320,6 +393,7 @@ fn no_point_told(
     alloc: Global,
     request: Request<'_>,
     texts: &Texts,
+    heard: &Heard,
 ) -> Result<Option<Vec<u8>>, OutOfMemory> {
     let Request::Conditions {
         chosen: Chosen::Those {
@@ -331,10 +405,10 @@ fn no_point_told(
     else {
         return Ok(None);
     };
-    let Some(development) = development_in(alloc, texts.text(0))? else {
+    let Some(spoken) = known_development(alloc, heard, texts.text(0))? else {
         return Ok(None);
     };
-    let names = point_names(alloc, &development)?;
+    let names = point_names(alloc, spoken.development())?;
     let text = format!(in alloc; "lincheck: no point is named {name}; the points are {names}\n")?;
     Ok(Some(text.into_bytes()))
 }
@@ -350,11 +424,11 @@ fn answered_told(
         Request::Prove { .. } | Request::Carry { .. } => {
             sought_told(alloc, request, texts, None, heard)
         }
-        Request::Check { .. } => accepted_told(alloc, request, texts),
+        Request::Check { .. } => accepted_told(alloc, request, texts, heard),
         Request::Conditions {
             chosen: Chosen::Number(number),
             ..
-        } => condition_told(alloc, request, texts, number),
+        } => condition_told(alloc, request, texts, heard, number),
         _ => Ok(None),
     }
 }
@@ -368,19 +442,26 @@ fn why_told(
     heard: &Heard,
 ) -> Result<Option<Vec<u8>>, OutOfMemory> {
     match why {
-        Some(Why::Refused(refusal)) => refused_told(alloc, request, texts, &refusal),
+        Some(Why::Refused(refusal)) => refused_told(alloc, request, texts, &refusal, heard),
         Some(Why::Unfound(number)) => sought_told(alloc, request, texts, Some(number), heard),
         Some(Why::Unordered(count)) => unordered_told(alloc, request, texts, count),
-        Some(Why::NoPoint) => no_point_told(alloc, request, texts),
+        Some(Why::UntriedChoices) => own_line(alloc, UNTRIED_CHOICES),
+        Some(Why::Overflow) => own_line(alloc, OVERFLOW),
+        Some(Why::GivenUp(nodes)) => given_up_told(alloc, nodes),
+        Some(Why::NoPoint) => no_point_told(alloc, request, texts, heard),
         None => answered_told(alloc, request, texts, heard),
     }
 }
 
 /// Of each condition that a certificate does not prove why it does not.
-fn unproved_told(alloc: Global, texts: &Texts) -> Result<Option<Vec<u8>>, OutOfMemory> {
-    match development_in(alloc, texts.text(0))? {
-        Some(development) => {
-            let text = unproved_conditions(alloc, &development, texts.text(1))?;
+fn unproved_told(
+    alloc: Global,
+    texts: &Texts,
+    heard: &Heard,
+) -> Result<Option<Vec<u8>>, OutOfMemory> {
+    match known_development(alloc, heard, texts.text(0))? {
+        Some(spoken) => {
+            let text = unproved_conditions(alloc, spoken.development(), texts.text(1))?;
             Ok(Some(text.into_bytes()))
         }
         None => Ok(None),
@@ -405,14 +486,37 @@ fn misses_told(
     heard: &Heard,
 ) -> Result<Option<Vec<u8>>, OutOfMemory> {
     let source = source_of(asked.request, texts);
-    let Some(development) = development_in(alloc, source.bytes)? else {
+    let Some(spoken) = known_development(alloc, heard, source.bytes)? else {
         return Ok(None);
     };
-    let hints = hints_from(alloc, &development, texts.text(1))?;
+    let development = spoken.development();
+    let hints = hints_from(alloc, development, texts.text(1))?;
     let ending = heard.ending();
     let first = Missed { number, ending };
     let full = asked.is_explained;
-    let text = unfound_conditions(alloc, source, &development, &hints, first, full)?;
+    let text = unfound_conditions(alloc, source, development, &hints, first, full)?;
+    Ok(Some(text))
+}
+
+/// For which conditions of a development that was made whole no proof is found, if `number` is the first.
+fn incomplete_told(
+    alloc: Global,
+    asked: &Asked<'_>,
+    number: u64,
+    heard: &Heard,
+) -> Result<Option<Vec<u8>>, OutOfMemory> {
+    let source = Source {
+        path: "standard output",
+        bytes: heard.made(),
+    };
+    let Some(development) = heard.development() else {
+        return Ok(None);
+    };
+    let hints = Hints::new(alloc);
+    let ending = heard.ending();
+    let first = Missed { number, ending };
+    let full = asked.is_explained;
+    let text = unfound_conditions(alloc, source, development, &hints, first, full)?;
     Ok(Some(text))
 }
 
@@ -447,9 +551,12 @@ pub fn explain<E: Write>(
     err: &mut E,
 ) {
     match (asked.request, why) {
-        (Request::Check { all: true, .. }, Some(_)) => say(err, unproved_told(alloc, texts)),
+        (Request::Check { all: true, .. }, Some(_)) => say(err, unproved_told(alloc, texts, heard)),
         (Request::Prove { all: true, .. }, Some(Why::Unfound(number))) => {
             return say(err, misses_told(alloc, asked, number, texts, heard));
+        }
+        (Request::Complete { .. }, Some(Why::Unfound(number))) => {
+            return say(err, incomplete_told(alloc, asked, number, heard));
         }
         _ => {}
     }

@@ -3,7 +3,7 @@ ghost use Rattle.std.specs.Prelude.{◌≡◌, ◌≤◌, ℕ, List, Some, lengt
 ghost use Rattle.lc_base.specs.Limits.{file_limit};
 ghost use Rattle.lc_proof_text.specs.Files.{Claim, file_reading};
 ghost use Rattle.lc_reading.specs.Files.{Says};
-ghost use Rattle.lc_hist.specs.History.{Event, Entry};
+ghost use Rattle.lc_history.specs.History.{Event, Entry};
 ghost use Rattle.lc_hist.specs.JsonHistories.{SaysHistory};
 ghost use Rattle.lc_spec_text.specs.Specifications.{first_reading};
 ghost use Rattle.lc_seq.specs.Specification.{Specification};

@@ -4,6 +4,7 @@
 mod answer;
 mod carry;
 mod check;
+mod complete;
 mod condition;
 mod conditions;
 mod disk;
@@ -26,6 +27,7 @@ mod run;
 mod show;
 mod sink;
 mod telling;
+mod unfound;
 mod workers;
 
 pub use answer::{COMMAND_LINE_FAULT, INPUT_OR_OUTPUT_FAULT, OUT_OF_MEMORY, REFUSED, SUCCESS};

@@ -1,8 +1,8 @@
 //! The command `order`.
 ghost use Rattle.std.specs.Prelude.{◌≡◌, IfOk, IsErr};
 ghost use Rattle.lc_base.specs.Line.{line_of};
-ghost use Rattle.lc_hist.specs.Histories.{events_in};
-ghost use Rattle.lc_hist.specs.JsonHistories.{entries_view};
+ghost use Rattle.lc_history.specs.Histories.{events_in};
+ghost use Rattle.lc_history.specs.View.{entries_view};
 ghost use Rattle.lc_seq.specs.TextView.{specification_of};
 ghost use Rattle.lc_words.specs.Tasks.{FindOrder};
 ghost use Rattle.lincheck.specs.Execution.{IsUnread};
@@ -14,13 +14,14 @@ use crate::files::Files;
 use crate::judge::spec_fed;
 use crate::reading::{feed_forms, read_file};
 use lc_base::{OutOfMemory, write_line};
-use lc_hist::{Done, History, history_to_json, recorded_from_json};
+use lc_hist::{history_to_json, recorded_from_json};
+use lc_history::{Done, History};
 use lc_order::{Decision, decide};
 use lc_seq::{Pick, TextCall, TextSpec};
 use std::alloc::Global;
 
 /// How many nodes of a search are looked at, if no number is given.
-const BUDGET: u64 = 10_000_000;
+pub const BUDGET: u64 = 10_000_000;
 
 /// How an order is looked for, and told.
 #[derive(Clone, Copy)]
@@ -29,6 +30,17 @@ pub struct Search {
     pub check: bool,
     /// How many nodes are looked at, if a number is given.
     pub budget: Option<u64>,
+}
+
+/// Why no order is told of a history of which this is decided, over so many nodes.
+pub fn why_of(decision: &Decision<TextCall, Pick, Vec<i64>>, budget: u64) -> Option<Why> {
+    match decision {
+        Decision::Order(_) => None,
+        Decision::NotLinearizable(front) => Some(Why::Unordered(*front as u64)),
+        Decision::Unknown => Some(Why::UntriedChoices),
+        Decision::Overflow => Some(Why::Overflow),
+        Decision::Budget => Some(Why::GivenUp(budget)),
+    }
 }
 
 /// What is printed of a history with an order that linearizes it.
@@ -65,13 +77,14 @@ fn told_word(
     })
 }
 
-/// The answer that tells what is decided of a history.
+/// The answer that tells what is decided of a history, and why no order is told.
 fn tell_decision(
     alloc: Global,
     spec: &TextSpec,
     history: &History,
     decision: &Decision<TextCall, Pick, Vec<i64>>,
     check: bool,
+    why: Option<Why>,
 ) -> Result<Answer, OutOfMemory>
     ensures { IfOk result (λ answer. ToldDecision check (specification_of spec.now).operations (events_in history.now) decision.now answer.text.items answer.status) }
 {
@@ -79,20 +92,14 @@ fn tell_decision(
         Decision::Order(order) => Ok(Answer {
             text: ordered_text(alloc, spec, history, order, check)?,
             status: SUCCESS,
-            why: None,
+            why,
         }),
         Decision::NotLinearizable(front) => {
-            let number = *front as u64;
-            told_word(
-                alloc,
-                "not linearizable",
-                &[number],
-                Some(Why::Unordered(number)),
-            )
+            told_word(alloc, "not linearizable", &[*front as u64], why)
         }
-        Decision::Unknown => told_word(alloc, "unknown", &[], None),
-        Decision::Overflow => told_word(alloc, "overflow", &[], None),
-        Decision::Budget => told_word(alloc, "budget", &[], None),
+        Decision::Unknown => told_word(alloc, "unknown", &[], why),
+        Decision::Overflow => told_word(alloc, "overflow", &[], why),
+        Decision::Budget => told_word(alloc, "budget", &[], why),
     }
 }
 
@@ -110,7 +117,8 @@ fn order_of(
         Ok((history, given)) => {
             let budget = search.budget.unwrap_or(BUDGET);
             let decision = decide(alloc, spec, &history, given, budget)?;
-            tell_decision(alloc, spec, &history, &decision, search.check)
+            let why = why_of(&decision, budget);
+            tell_decision(alloc, spec, &history, &decision, search.check, why)
         }
         Err(fault) => told_fault(alloc, fault),
     }

@@ -10,6 +10,7 @@ ghost use Rattle.lincheck.specs.Status.{status_of};
 use crate::answer::{COMMAND_LINE_FAULT, Failure, SUCCESS, Why};
 use crate::carry::answer_carry;
 use crate::check::answer_check;
+use crate::complete::answer_complete;
 use crate::conditions::answer_conditions;
 use crate::draw::answer_draw;
 use crate::explain::{explain, is_kept};
@@ -33,6 +34,16 @@ use std::io::Write;
 use std::sync::Wait;
 use std::thread::Threads;
 
+/// Whether a request asks to say how far it is.
+fn tells_progress(request: Request<'_>) -> bool {
+    matches!(
+        request,
+        Request::Check { progress: true, .. }
+            | Request::Prove { progress: true, .. }
+            | Request::Carry { progress: true, .. }
+    )
+}
+
 /// Does what is asked for, prints the answer, returns its status, and hands out why it is refused and what the finder reported. Files
 /// are opened, read and judged in the order of the command, so that none is opened after a refusal.
 fn carry_out<'a, R: Threads + Wait + Sync, F: Files, O: Write, E: Write>(
@@ -44,10 +55,17 @@ fn carry_out<'a, R: Threads + Wait + Sync, F: Files, O: Write, E: Write>(
     err: &mut E,
     why: &mut Option<Why>,
     heard: &mut Heard,
+    is_kept: bool,
 ) -> Result<u8, Failure<'a>>
     ensures unread { IsUnread (F.CannotOpen files.old) (F.bytes_at files.old) (task_of request.entry) → IsErr result × (out.new ≡ out.old) }
     ensures leaves { Leaves (task_of request.entry) (AnswersTask (F.bytes_at files.old) (task_of request.entry)) (O.contents out.old) (O.contents out.new) result }
 {
+    let mut telling = Telling {
+        err,
+        heard,
+        is_asked: tells_progress(request),
+        is_kept,
+    };
     match request {
         Request::Formula(path) => print_told(out, why, &answer_formula(alloc, files, path)?),
         Request::Judge {
@@ -69,14 +87,8 @@ fn carry_out<'a, R: Threads + Wait + Sync, F: Files, O: Write, E: Write>(
             development,
             certificate,
             workers,
-            progress: is_asked,
             ..
         } => {
-            let mut telling = Telling {
-                err,
-                heard,
-                is_asked,
-            };
             let answer = answer_check(
                 rt,
                 alloc,
@@ -91,14 +103,8 @@ fn carry_out<'a, R: Threads + Wait + Sync, F: Files, O: Write, E: Write>(
         Request::Prove {
             development,
             hints,
-            progress: is_asked,
             ..
         } => {
-            let mut telling = Telling {
-                err,
-                heard,
-                is_asked,
-            };
             let answer = answer_prove(alloc, files, development, hints, &mut telling)?;
             print_told(out, why, &answer)
         }
@@ -107,13 +113,8 @@ fn carry_out<'a, R: Threads + Wait + Sync, F: Files, O: Write, E: Write>(
             certificate,
             new,
             hints,
-            progress: is_asked,
+            ..
         } => {
-            let mut telling = Telling {
-                err,
-                heard,
-                is_asked,
-            };
             let answer = answer_carry(alloc, files, old, certificate, new, hints, &mut telling)?;
             print_told(out, why, &answer)
         }
@@ -122,7 +123,15 @@ fn carry_out<'a, R: Threads + Wait + Sync, F: Files, O: Write, E: Write>(
             certificate,
             plan,
         } => {
-            let answer = answer_run(rt, alloc, files, development, certificate, plan, err)?;
+            let answer = answer_run(
+                rt,
+                alloc,
+                files,
+                development,
+                certificate,
+                plan,
+                telling.err,
+            )?;
             print_told(out, why, &answer)
         }
         Request::Draw {
@@ -140,6 +149,10 @@ fn carry_out<'a, R: Threads + Wait + Sync, F: Files, O: Write, E: Write>(
         } => {
             let search = Search { check, budget };
             let answer = answer_order(alloc, files, development, history, search)?;
+            print_told(out, why, &answer)
+        }
+        Request::Complete { short, budget } => {
+            let answer = answer_complete(alloc, files, short, budget, &mut telling)?;
             print_told(out, why, &answer)
         }
         Request::New(name) => print_told(out, why, &answer_new(alloc, name)?),
@@ -210,10 +223,11 @@ pub fn execute<R: Threads + Wait + Sync, F: Files, O: Write, E: Write>(
         Ok(asked) => {
             let mut why = None;
             let mut heard = Heard::new(alloc);
+            let is_kept = is_kept(&asked);
             let mut kept = Kept {
                 files,
                 texts: Texts::new(alloc),
-                is_kept: is_kept(&asked),
+                is_kept,
             };
             match carry_out(
                 rt,
@@ -224,6 +238,7 @@ pub fn execute<R: Threads + Wait + Sync, F: Files, O: Write, E: Write>(
                 err,
                 &mut why,
                 &mut heard,
+                is_kept,
             ) {
                 Ok(status) => {
                     explain(alloc, &asked, why, &kept.texts, &heard, err);

@@ -15,8 +15,9 @@ use crate::answer::{Answer, Failure, SEATS_DO_NOT_MATCH, SUCCESS, told_fault};
 use crate::check::open_development;
 use crate::files::Files;
 use crate::reading::{feed_file, feed_forms};
+use crate::sink::Proving;
 use lc_base::{Fault, OutOfMemory, write_line};
-use lc_check::{Accepted, CertificateSession, Verdict};
+use lc_check::{Accepted, Alone, CertificateSession, Verdict};
 use lc_crew::{Ended, Halt, Ran, Stop, run};
 use lc_hist::history_to_json;
 use lc_outline::Development;
@@ -39,8 +40,11 @@ fn accept_at<'a, F: Files>(
     ensures unread { F.CannotOpen files.old path.now → IsErr result }
     ensures opens { IfOk result (λ opened. OfFile (F.bytes_at files.old path.now) (λ file. OpensAccepted (development_view development) file opened)) }
 {
-    let mut session = CertificateSession::new(alloc, development)?;
-    feed_file(files, path, &mut session)?;
+    let session = CertificateSession::new(alloc, development)?;
+    let prover = Alone;
+    let mut proving = Proving { session, prover };
+    feed_file(files, path, &mut proving)?;
+    let Proving { session, prover: _ } = proving;
     let verdict = session.finish()?;
     match verdict {
         Verdict::Accepted(accepted) => Ok(Ok(accepted)),

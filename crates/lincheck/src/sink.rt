@@ -2,7 +2,7 @@
 ghost use Rattle.std.specs.Prelude.{◌≡◌};
 
 use lc_base::OutOfMemory;
-use lc_check::CertificateSession;
+use lc_check::{CertificateSession, Prover};
 use lc_sexp::FormsReader;
 
 /// Takes a file piece by piece.
@@ -46,16 +46,23 @@ impl Sink for FormsReader {
     }
 }
 
+/// A session, and who finds out whether its proofs hold.
+#[derive(Drop)]
+pub struct Proving<P: Prover + Drop> {
+    pub session: CertificateSession,
+    pub prover: P,
+}
+
 /// A certificate's proofs, each checked as soon as it has ended.
-impl Sink for CertificateSession {
+impl<P: Prover + Drop> Sink for Proving<P> {
     ghost use Rattle.lc_outline.specs.Development.{Development};
     ghost use Rattle.lc_check.specs.Stages.{IsFedOn as IsSessionFed};
 
     ghost About = { Development };
 
-    ghost WasFed = { λ session development fed. IsSessionFed development fed session };
+    ghost WasFed = { λ proving development fed. IsSessionFed development fed proving.session };
 
     fn feed(&mut self, piece: &[u8]) -> Result<(), OutOfMemory> {
-        CertificateSession::feed(self, piece)
+        self.session.feed_by(&mut self.prover, piece)
     }
 }

@@ -6,10 +6,11 @@ ghost use Rattle.std.specs.Prelude.{◌≡◌, ◌⊎◌, List, None, Some, code
 ghost use Rattle.lc_cond_text.specs.ConditionText.{conditions_text};
 ghost use Rattle.lc_lib_texts.specs.Texts.{development_bytes};
 ghost use Rattle.lc_words.specs.Reading.{AreWrong};
-ghost use Rattle.lc_words.specs.Tasks.{BeginDevelopment, CarryWithHints, CheckByWorkers, CheckCertificate, CheckFormula, DrawHistory, FindOrder, JudgeHistory, ListConditions, PrintLibrary, ProveWithHints, RunPlan, ShowLines, Task, texts_of};
+ghost use Rattle.lc_words.specs.Tasks.{BeginDevelopment, CarryWithHints, CheckByWorkers, CheckCertificate, CheckFormula, DrawHistory, FindOrder, JudgeHistory, ListConditions, MakeWhole, PrintLibrary, ProveWithHints, RunPlan, ShowLines, Task, texts_of};
 ghost use Rattle.lc_words.specs.declared.request.LibraryText.TheVariants.{Development};
 ghost use Rattle.lincheck.specs.Carry.{AnswersCarry, AnswersWith};
 ghost use Rattle.lincheck.specs.Check.{AnswersCheck, AnswersDevelopment};
+ghost use Rattle.lincheck.specs.Complete.{AnswersComplete};
 ghost use Rattle.lincheck.specs.Draw.{AnswersDraw};
 ghost use Rattle.lincheck.specs.Execution.{AnswersTask};
 ghost use Rattle.lincheck.specs.Formula.{AnswersFormula};
@@ -66,6 +67,13 @@ impl<'a, R: Threads + Wait + Sync> Program<'a, R> {
         ensures { EndsWith (texts_of self.old.words.now) (FindOrder (codes "a") (codes "b") false None) (AnswersOrder false self.old.files.0.now (Some self.old.files.1.now)) decision.old.items decision.new.items result }
     {
         self.execute(decision, err)
+    }
+
+    /// `complete` prints a development that completes a short one.
+    pub fn making_whole(&mut self, whole: &mut Vec<u8>, err: &mut Vec<u8>) -> u8
+        ensures { EndsWith (texts_of self.old.words.now) (MakeWhole (codes "a") None) (AnswersComplete self.old.files.0.now) whole.old.items whole.new.items result }
+    {
+        self.execute(whole, err)
     }
 
     /// `conditions` prints a line for each condition of a development. On `OutOfMemory` a beginning of them may have been written.

@@ -2,10 +2,9 @@
 
 use super::{IndexChange, Indexed, Known};
 use crate::fact::Place;
-use crate::form::Form;
-use crate::nodes::STORES;
 use lc_base::ColId;
 use lc_farkas::{Rational, Stop};
+use lc_nodes::{Form, STORES};
 use lc_table::{ColExprId, FormulaId, TermId, TermNode};
 
 impl Known {

@@ -2,8 +2,8 @@
 
 use super::Known;
 use crate::fact::{FactId, Multiplier, ProofId, Rule, Step};
-use crate::nodes::narrow;
 use lc_farkas::{Reason, Stop};
+use lc_nodes::narrow;
 use lc_table::FormulaId;
 
 /// A divisor of all numbers of a comparison's form but the constant.

@@ -233,16 +233,11 @@ impl Tableau {
         for place in 0..self.rows.len() {
             self.shift_row(place, variable, change)?;
         }
-        Ok(())
+        self.spend_rows()
     }
 
     /// Moves the basic variable of a row with a variable of it.
-    pub(super) fn shift_row(
-        &mut self,
-        place: usize,
-        variable: usize,
-        change: Rational,
-    ) -> Result<(), Stop> {
+    fn shift_row(&mut self, place: usize, variable: usize, change: Rational) -> Result<(), Stop> {
         let Some(row) = self.rows.get(place) else {
             return Ok(());
         };

@@ -146,8 +146,7 @@ impl Tableau {
         self.put_value(entering, value);
         let new = old.solved(self.alloc, entering)?;
         for place in 0..self.rows.len() {
-            self.shift_row(place, entering, change)?;
-            self.eliminate(place, entering, &new)?;
+            self.follow(place, entering, change, &new)?;
         }
         self.put_row(broken.basic, None);
         self.put_row(entering, Some(broken.place));
@@ -157,8 +156,14 @@ impl Tableau {
         Ok(())
     }
 
-    /// Replaces a variable in a row by its own row.
-    fn eliminate(&mut self, place: usize, variable: usize, by: &Row) -> Result<(), Stop> {
+    /// Moves the basic variable of a row with a variable of it, which is replaced there by its own row.
+    fn follow(
+        &mut self,
+        place: usize,
+        variable: usize,
+        change: Rational,
+        by: &Row,
+    ) -> Result<(), Stop> {
         let Some(row) = self.rows.get_mut(place) else {
             return Ok(());
         };
@@ -168,6 +173,9 @@ impl Tableau {
         }
         row.add(variable, number.negated()?)?;
         row.add_row(number, by)?;
-        self.spend(by.summands.len())
+        let (basic, look) = (row.basic, row.look());
+        let value = self.value(basic).plus(number.times(change)?)?;
+        self.put_value(basic, value);
+        self.spend(by.summands.len().saturating_mul(look))
     }
 }

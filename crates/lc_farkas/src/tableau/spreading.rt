@@ -10,6 +10,9 @@ use indexmap::IndexMap;
 /// How far a variable is moved at most.
 const FAR: i128 = 300;
 
+/// How often each row is looked at where a variable is moved.
+const LOOKS: usize = 3;
+
 /// How far a variable can be moved down and up.
 #[derive(Clone, Copy)]
 pub(super) struct Room {
@@ -73,7 +76,7 @@ impl Tableau {
     pub fn spread(&mut self) -> Result<(), Stop> {
         let mut counts = self.counts()?;
         for variable in 0..self.variables.len() {
-            if self.row_of(variable).is_none() {
+            if self.row_of(variable).is_none() && !self.is_fixed(variable) {
                 self.spend_rows()?;
                 if self.is_crowded(variable, &counts) {
                     self.move_apart(variable, &mut counts)?;
@@ -81,6 +84,17 @@ impl Tableau {
             }
         }
         Ok(())
+    }
+
+    /// Whether the bounds of a variable allow one number alone: then there is no room for it.
+    fn is_fixed(&self, variable: usize) -> bool {
+        match (
+            self.bound(variable, Side::Lower),
+            self.bound(variable, Side::Upper),
+        ) {
+            (Some(lower), Some(upper)) => lower.value == upper.value,
+            _ => false,
+        }
     }
 
     /// How many atoms have each number.
@@ -181,6 +195,8 @@ impl Tableau {
         variable: usize,
         counts: &mut IndexMap<Rational, u64>,
     ) -> Result<(), Stop> {
+        let looks = self.look().saturating_mul(LOOKS);
+        self.spend(looks)?;
         let room = self.room(variable)?;
         let low = room.low()?;
         let high = room.high()?;

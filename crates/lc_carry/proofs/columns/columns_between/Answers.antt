@@ -1,7 +1,7 @@
 use Rattle.std.proofs.Common.{◌≡◌, ◌≤◌, length, map, ap, ◌∙◌}
 use Rattle.std.proofs.lemmas.List.{take_all}
 use Rattle.lc_carry.proofs.Between.{number_in, same_columns}
-use Rattle.lc_naming.specs.ColumnNames.{column_names}
+use Rattle.lc_outline.specs.ColumnNames.{column_names}
 use Rattle.lc_outline.specs.DevelopmentView.{development_view}
 use Rattle.lc_reading.specs.Listed.{place_of}
 use Rattle.lc_reading.specs.TableView.{listed}

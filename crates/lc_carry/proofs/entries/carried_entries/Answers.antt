@@ -4,7 +4,7 @@ use Rattle.std.specs.declared.alloc.Global.{Global}
 use Rattle.std.proofs.lemmas.List.{length-map}
 use Rattle.lc_carry.proofs.PartByPart.{part_carried, all_carried, same_carried}
 use Rattle.lc_carry.proofs.Few.{few_carried}
-use Rattle.lc_carry.proofs.Parts.{no_part_ends}
+use Rattle.lc_cond.proofs.Streamed.{no_part_ends}
 use Rattle.lc_carry.specs.Carried.{carried_from, carried_proof}
 use Rattle.lc_carry.specs.OldProofs.{proof_for}
 use Rattle.lc_cert.specs.Certificates.{HaveFewSteps}

@@ -6,7 +6,7 @@ use Rattle.lc_cert.specs.CertificateView.{entries_in}
 use Rattle.lc_cond.specs.ConditionView.{condition_in}
 use Rattle.lc_cond_text.specs.ConditionText.{statement_text}
 use Rattle.lc_outline.specs.DevelopmentView.{development_view}
-use Rattle.lc_rename.specs.Renaming.{column_for}
+use Rattle.lc_carry.specs.Renaming.{column_for}
 use Rattle.lc_carry.proofs.numbers.note_condition.Goals as goal
 
 pub returns-then-not-has_carried-clause-noted : goal.returns-then-not-has_carried-clause-noted

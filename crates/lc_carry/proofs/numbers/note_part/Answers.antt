@@ -5,7 +5,7 @@ use Rattle.lc_carry.specs.TextNumbers.{number_of}
 use Rattle.lc_cert.specs.CertificateView.{entries_in}
 use Rattle.lc_cond_text.specs.ConditionText.{spelled}
 use Rattle.lc_outline.specs.DevelopmentView.{development_view}
-use Rattle.lc_rename.specs.Renaming.{column_for}
+use Rattle.lc_carry.specs.Renaming.{column_for}
 use Rattle.lc_carry.proofs.numbers.note_part.Goals as goal
 
 pub loop-condition-init : goal.loop-condition-init

@@ -7,7 +7,7 @@ use Rattle.lc_cond.specs.ConditionView.{condition_in}
 use Rattle.lc_cond_text.specs.ConditionText.{spelled}
 use Rattle.lc_cond_text.specs.Recalled.{Recalls}
 use Rattle.lc_outline.specs.DevelopmentView.{development_view}
-use Rattle.lc_rename.specs.Renaming.{column_for}
+use Rattle.lc_carry.specs.Renaming.{column_for}
 use Rattle.lc_carry.proofs.numbers.note_part.Given as goal
 
 -- what is noted so far, and of what is left, is noted of all

@@ -4,7 +4,7 @@ use Rattle.std.specs.Prelude.{Vec}
 use Rattle.std.specs.declared.alloc.Global.{Global}
 use Rattle.std.proofs.lemmas.List.{length-map}
 use Rattle.lc_carry.proofs.Least.{part_noted, all_noted}
-use Rattle.lc_carry.proofs.Parts.{no_part_ends}
+use Rattle.lc_cond.proofs.Streamed.{no_part_ends}
 use Rattle.lc_carry.specs.Carried.{least_number}
 use Rattle.lc_carry.specs.TextNumbers.{number_of}
 use Rattle.lc_cert.specs.CertificateView.{entries_in}
@@ -12,7 +12,7 @@ use Rattle.lc_cond.specs.ConditionView.{condition_in}
 use Rattle.lc_cond.specs.Stream.{conditions_left, next_number, IsNextPart, IsPart, IsEnd}
 use Rattle.lc_cond.specs.declared.condition.Condition.{Condition}
 use Rattle.lc_outline.specs.DevelopmentView.{development_view}
-use Rattle.lc_rename.specs.Renaming.{column_for}
+use Rattle.lc_carry.specs.Renaming.{column_for}
 use Rattle.lc_carry.proofs.numbers.numbers_of.Goals as goal
 
 pub returns-in_default : goal.returns-in_default

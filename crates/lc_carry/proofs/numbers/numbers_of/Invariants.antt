@@ -6,7 +6,7 @@ use Rattle.lc_cert.specs.CertificateView.{entries_in}
 use Rattle.lc_cond.specs.Conditions.{conditions}
 use Rattle.lc_cond.specs.Stream.{conditions_left, parts_left, next_number}
 use Rattle.lc_outline.specs.DevelopmentView.{development_view}
-use Rattle.lc_rename.specs.Renaming.{column_for}
+use Rattle.lc_carry.specs.Renaming.{column_for}
 use Rattle.lc_carry.proofs.numbers.numbers_of.Given as goal
 
 -- what is noted so far, and of what is left, is noted of all

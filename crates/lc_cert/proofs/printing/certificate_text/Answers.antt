@@ -7,7 +7,7 @@ use Rattle.lc_reading.specs.Words.{names_in}
 use Rattle.lc_sexp.specs.Printed.{printed_others}
 use Rattle.lc_cert.proofs.Written.{written_line}
 use Rattle.lc_cert.specs.CertificateView.{entries_in}
-use Rattle.lc_naming.specs.ColumnNames.{column_names}
+use Rattle.lc_outline.specs.ColumnNames.{column_names}
 use Rattle.lc_cert.specs.ColumnNames.{spelled_with}
 use Rattle.lc_cert.specs.EntryView.{entries_of}
 use Rattle.lc_cert.specs.Printed.{entry_trees}

@@ -12,7 +12,7 @@ use Rattle.lc_cert.proofs.Behind.{file_at}
 use Rattle.lc_cert.proofs.Refusals.{trees_refused}
 use Rattle.lc_cert.proofs.Rising.{file_rises}
 use Rattle.lc_cert.specs.Certificates.{is_rising}
-use Rattle.lc_naming.specs.ColumnNames.{column_names}
+use Rattle.lc_outline.specs.ColumnNames.{column_names}
 use Rattle.lc_cert.specs.EntryView.{entries_of}
 use Rattle.lc_cert.proofs.reading.certificate_of.Goals as goal
 

@@ -1,6 +1,6 @@
 use Rattle.std.proofs.Common.{◌+◌, map, drop, sym, ap, ◌∙◌}
 use Rattle.std.proofs.Math.ListN.{drop_of_length-le}
-use Rattle.lc_table.specs.PutNumbers.{columns_at}
+use Rattle.lc_put.specs.PutNumbers.{columns_at}
 use Rattle.lc_table.proofs.Later.{kept_on}
 use Rattle.lc_term.specs.Said.{puts, said}
 use Rattle.lc_term.specs.Syntax.{Base}

@@ -1,6 +1,6 @@
-use Rattle.std.proofs.Common.{◌≡◌, subst, ap₂, ◌∙◌, OnOk, map}
-use Rattle.lc_table.specs.PutNumbers.{columns_at}
-use Rattle.lc_table.proofs.ByNumber.{are_columns_later, columns_still}
+use Rattle.std.proofs.Common.{◌≡◌, subst, OnOk}
+use Rattle.lc_put.specs.PutNumbers.{columns_at}
+use Rattle.lc_put.proofs.ByNumber.{are_columns_later, columns_still}
 use Rattle.lc_table.proofs.Later.{kept_on, term_later, term_is, is_term_later, keeps_itself}
 use Rattle.lc_term.specs.Said.{put}
 use Rattle.lc_term.specs.Syntax.{Column}

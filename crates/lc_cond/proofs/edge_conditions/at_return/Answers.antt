@@ -1,9 +1,9 @@
 use Rattle.std.proofs.Common.{rules, ◌≡◌, ap, sym, subst, ◌∙◌, pos}
-use Rattle.lc_table.specs.PutNumbers.{AreColumns, columns_at}
+use Rattle.lc_put.specs.PutNumbers.{AreColumns, columns_at}
 use Rattle.lc_term.specs.Said.{put}
 use Rattle.lc_term.specs.Syntax.{Variable, Number}
 use Rattle.lc_table.specs.Tables.{term_in}
-use Rattle.lc_table.proofs.ByNumber.{are_columns_later}
+use Rattle.lc_put.proofs.ByNumber.{are_columns_later}
 use Rattle.lc_table.proofs.Later.{kept_on, term_is, term_later, is_term_later}
 use Rattle.lc_cond.proofs.Adding.{columns_later}
 use Rattle.lc_cond.proofs.edge_conditions.at_return.Goals as goal

@@ -1,6 +1,6 @@
 use Rattle.std.proofs.Common.{◌++◌, map, ap₂, sym, subst}
 use Rattle.std.proofs.lemmas.Result.{on_ok_weaker}
-use Rattle.lc_table.specs.PutNumbers.{AreTerms}
+use Rattle.lc_put.specs.PutNumbers.{AreTerms}
 use Rattle.lc_table.specs.Tables.{AreFormulas}
 use Rattle.lc_outline.specs.Development.{invariant_of, asserts_to}
 use Rattle.lc_rider.specs.Paths.{edge_variables}

@@ -1,6 +1,6 @@
 use Rattle.std.proofs.Common.{Some, sym, subst}
 use Rattle.std.proofs.lemmas.Result.{on_ok_weaker}
-use Rattle.lc_table.specs.PutNumbers.{AreTerms}
+use Rattle.lc_put.specs.PutNumbers.{AreTerms}
 use Rattle.lc_outline.specs.Development.{first_system}
 use Rattle.lc_cond.specs.Adding.{Adds}
 use Rattle.lc_cond.specs.Conditions.{reply_goals}
@@ -21,7 +21,7 @@ pub returns-clause-list : goal.returns-clause-list
 returns-clause-list c =
     let s = c.args.outcome.scene.now in
     let t0 = c.args.terms.now in
-    let t1 = c.put_in_formula.new.self in
+    let t1 = c.put_in_formula.new.table in
     let goals = reply_goals (first_system (development_in s)) (code_in s) in
     let reply : IsReply t0 (Some c.in-Some.reply) goals = subst (λ k. IsReply t0 k goals) c.in-Some.is c.requires.scene.reply in
     let variables = terms_listed t0 s.variables.items c.deref.result.now _ c.requires.scene.variables c.deref.ensures.value in

@@ -1,6 +1,6 @@
 use Rattle.std.proofs.Common.{rules, ◌≡◌, ◌++◌, [], ◌∷◌}
 use Rattle.lc_table.proofs.Later.{kept_on}
-use Rattle.lc_table.specs.Put.{replacement_of}
+use Rattle.lc_put.specs.Put.{replacement_of}
 use Rattle.lc_cond.proofs.Replacing.{formula_at_later, told_more}
 use Rattle.lc_cond.proofs.entering.told.Goals as goal
 
@@ -10,7 +10,7 @@ replace-requires-clause-formula c =
 
 pub loop-formula-preserved : goal.loop-formula-preserved
 loop-formula-preserved c =
-    let now = c.replace.new.self in
+    let now = c.replace.new.table in
     let k = c.in_ok-replace.field-0 in
     let items : c.push.new.self.items ≡ c.loop-formula.numbers.items ++ k ∷ [] = search rules in (
       kept_on c.args.terms.now c.loop-formula.terms now c.loop-formula.invariant.0 c.in_ok-replace.ensures.kept,

@@ -2,7 +2,7 @@ use Rattle.std.proofs.Common.{map, take}
 use Rattle.lc_term.specs.Replacement.{replace}
 use Rattle.lc_table.specs.Tables.{Keeps, formulas_in}
 use Rattle.lc_cond.specs.Adding.{HasFormulas}
-use Rattle.lc_table.specs.Put.{Remembers, replacement_of}
+use Rattle.lc_put.specs.Put.{Remembers, replacement_of}
 use Rattle.lc_cond.proofs.entering.told.Given as goal
 
 -- the formulas so far

@@ -1,10 +1,10 @@
 use Rattle.std.proofs.Common.{rules, ◌≡◌, ◌++◌, [], ◌∷◌, map, get_or, sym, subst, ap, ap₂, ◌∙◌}
 use Rattle.std.proofs.lemmas.List.{take_all}
-use Rattle.lc_table.specs.Put.{Remembers}
-use Rattle.lc_table.specs.PutNumbers.{replacement_at}
+use Rattle.lc_put.specs.Put.{Remembers}
+use Rattle.lc_put.specs.PutNumbers.{replacement_at}
 use Rattle.lc_term.specs.Replacement.{replace}
 use Rattle.lc_table.specs.Tables.{formula_in, formulas_in, HasFormula}
-use Rattle.lc_table.proofs.ByNumber.{are_columns_later, are_terms_later, replacement_still}
+use Rattle.lc_put.proofs.ByNumber.{are_columns_later, are_terms_later, replacement_still}
 use Rattle.lc_table.proofs.Later.{kept_on}
 use Rattle.lc_cond.specs.Adding.{HasFormulas}
 use Rattle.lc_cond.proofs.Replacing.{formula_at_later, told_more, put_told}
@@ -24,7 +24,7 @@ pub loop-formula-preserved : goal.loop-formula-preserved
 loop-formula-preserved c =
     let t0 = c.args.terms.now in
     let t1 = c.loop-formula.terms in
-    let t2 = c.put_in_formula.new.self in
+    let t2 = c.put_in_formula.new.table in
     let ps = c.args.put.columns.now in
     let vs = c.args.put.variables.now in
     let kept01 = c.loop-formula.invariant.0 in

@@ -1,6 +1,6 @@
 use Rattle.std.proofs.Common.{map, take}
-use Rattle.lc_table.specs.Put.{Remembers}
-use Rattle.lc_table.specs.PutNumbers.{replacement_at}
+use Rattle.lc_put.specs.Put.{Remembers}
+use Rattle.lc_put.specs.PutNumbers.{replacement_at}
 use Rattle.lc_term.specs.Replacement.{replace}
 use Rattle.lc_table.specs.Tables.{Keeps, formulas_in}
 use Rattle.lc_cond.specs.Adding.{HasFormulas}

@@ -6,5 +6,5 @@ use Rattle.lc_cond.proofs.entries.entered_variables.Goals as goal
 
 pub returns-clause-list : goal.returns-clause-list
 returns-clause-list c =
-    terms_entered c.enter_terms.result c.enter_terms.new.self _ c.enter_terms.ensures.are
+    terms_entered c.enter_terms.result c.enter_terms.new.table _ c.enter_terms.ensures.are
     (IfOk-weaker c.enter_terms.result _ _ (λ ks e. e ∙ ap (map term_of) c.deref.ensures.value ∙ c.in_ok-variables.ensures) c.enter_terms.ensures.trees)

@@ -2,7 +2,7 @@ use Rattle.std.proofs.Common.{◌++◌, map, ap, ap₂, sym, subst, ◌∙◌}
 use Rattle.std.proofs.lemmas.Result.{on_ok_weaker}
 use Rattle.lc_term.specs.Said.{told}
 use Rattle.lc_table.specs.Tables.{AreFormulas}
-use Rattle.lc_table.proofs.ByNumber.{are_columns_later}
+use Rattle.lc_put.proofs.ByNumber.{are_columns_later}
 use Rattle.lc_table.proofs.Later.{kept_on}
 use Rattle.lc_object.specs.View.{operation_of}
 use Rattle.lc_outline.specs.Development.{invariant_of, asserts_at}

@@ -1,6 +1,6 @@
 use Rattle.std.proofs.Common.{ap, ap₂, sym, subst, ◌∙◌}
 use Rattle.std.proofs.lemmas.Result.{on_ok_weaker}
-use Rattle.lc_table.specs.PutNumbers.{AreColumns}
+use Rattle.lc_put.specs.PutNumbers.{AreColumns}
 use Rattle.lc_term.specs.Syntax.{Variable}
 use Rattle.lc_term.specs.SystemColumns.{column_count}
 use Rattle.lc_action.specs.Action.{post_columns}

@@ -1,5 +1,5 @@
 use Rattle.std.proofs.Common.{◌≡◌, refl, subst, arith}
-use Rattle.lc_table.proofs.ByNumber.{are_columns_later}
+use Rattle.lc_put.proofs.ByNumber.{are_columns_later}
 use Rattle.lc_table.proofs.Later.{kept_on}
 use Rattle.lc_cond.specs.Adding.{Adds}
 use Rattle.lc_cond.specs.Conditions.{OfColumn, column_conditions}

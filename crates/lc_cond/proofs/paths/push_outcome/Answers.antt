@@ -1,9 +1,9 @@
 use Rattle.std.proofs.Common.{◌++◌, refl, subst, sym}
 use Rattle.std.proofs.lemmas.Result.{on_ok_weaker}
-use Rattle.lc_table.specs.PutNumbers.{AreColumns, columns_at}
+use Rattle.lc_put.specs.PutNumbers.{AreColumns, columns_at}
 use Rattle.lc_term.specs.Syntax.{Column}
 use Rattle.lc_term.specs.SystemColumns.{pend}
-use Rattle.lc_table.proofs.ByNumber.{are_columns_later}
+use Rattle.lc_put.proofs.ByNumber.{are_columns_later}
 use Rattle.lc_table.proofs.Later.{kept_on}
 use Rattle.lc_action.specs.ActionView.{first_of}
 use Rattle.lc_outline.specs.Development.{first_system}

@@ -1,12 +1,13 @@
 use Rattle.std.proofs.Common.{rules, ◌≡◌, ◌++◌, ◌∷◌, [], map, take, ap, sym, subst, ◌∙◌}
 use Rattle.std.proofs.lemmas.List.{take_all}
+use Rattle.lc_lemmas.proofs.Lists.{seen_at}
 use Rattle.lc_table.proofs.Later.{kept_on}
 use Rattle.lc_action.specs.ActionView.{action_of}
 use Rattle.lc_outline.specs.DevelopmentView.{development_view}
 use Rattle.lc_cond.specs.Crossings.{AreCrossings}
 use Rattle.lc_cond.proofs.Adding.{formulas_later}
 use Rattle.lc_cond.proofs.Crossed.{given_later, crossings_put, seen_more}
-use Rattle.lc_cond.proofs.Few.{seen_at, action_few}
+use Rattle.lc_cond.proofs.Few.{action_few}
 use Rattle.lc_cond.proofs.stability.declared_crossings.Goals as goal
 
 pub cross-requires-clause-action : goal.cross-requires-clause-action

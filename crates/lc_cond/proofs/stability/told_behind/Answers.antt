@@ -1,10 +1,10 @@
-use Rattle.std.proofs.Common.{[], map, arith, sym, subst}
+use Rattle.std.proofs.Common.{map, arith, sym, subst}
 use Rattle.std.proofs.lemmas.Result.{IfOk-weaker}
 use Rattle.lc_term.specs.Lists.{Every}
 use Rattle.lc_term.specs.Syntax.{Variable}
 use Rattle.lc_term.specs.View.{term_of}
 use Rattle.lc_table.specs.Tables.{formulas_in}
-use Rattle.lc_table.proofs.ByNumber.{are_terms_later}
+use Rattle.lc_put.proofs.ByNumber.{are_terms_later}
 use Rattle.lc_table.proofs.Later.{are_formulas_still}
 use Rattle.lc_action.specs.Action.{post_columns}
 use Rattle.lc_action.specs.ActionView.{action_of}
@@ -14,7 +14,7 @@ use Rattle.lc_outline.specs.Resolved.{IsBelow}
 use Rattle.lc_outline.proofs.Resolving.{passed_is_resolved}
 use Rattle.lc_cond.specs.Adding.{HasFormulas}
 use Rattle.lc_cond.specs.Crossings.{code_variable_limit, code_variables}
-use Rattle.lc_cond.proofs.Adding.{formulas_are, formulas_later, terms_later, columns_listed, no_formulas}
+use Rattle.lc_cond.proofs.Adding.{formulas_are, formulas_later, terms_later, columns_listed}
 use Rattle.lc_cond.proofs.Few.{below_more}
 use Rattle.lc_cond.proofs.OwnVariables.{told_own}
 use Rattle.lc_cond.proofs.stability.told_behind.Goals as goal

@@ -1,4 +1,4 @@
-use Rattle.lc_table.proofs.ByNumber.{are_columns_later, are_terms_later}
+use Rattle.lc_put.proofs.ByNumber.{are_columns_later, are_terms_later}
 use Rattle.lc_table.proofs.Later.{are_formulas_still}
 use Rattle.lc_cond.proofs.Adding.{formulas_later, terms_later, columns_later}
 use Rattle.lc_cond.proofs.stability.told_in.Goals as goal

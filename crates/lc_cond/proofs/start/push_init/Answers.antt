@@ -1,6 +1,6 @@
 use Rattle.std.proofs.Common.{◌∷◌, [], pos, map, ap, ap₂, sym, subst, ◌∙◌}
 use Rattle.std.proofs.lemmas.Result.{on_ok_weaker}
-use Rattle.lc_table.specs.Put.{column_by_number}
+use Rattle.lc_put.specs.Put.{column_by_number}
 use Rattle.lc_term.specs.Replacement.{replace, replacing}
 use Rattle.lc_term.specs.Syntax.{Number, Variable, Le}
 use Rattle.lc_table.specs.Tables.{AreFormulas}

@@ -2,7 +2,7 @@ use Rattle.std.proofs.Common.{map}
 use Rattle.std.proofs.lemmas.Result.{on_ok_weaker}
 use Rattle.lc_term.specs.Replacement.{replace}
 use Rattle.lc_table.specs.Tables.{formulas_in}
-use Rattle.lc_table.specs.Put.{replacement_of}
+use Rattle.lc_put.specs.Put.{replacement_of}
 use Rattle.lc_cond.proofs.Adding.{formulas_later, formulas_listed}
 use Rattle.lc_cond.proofs.telling.push_all_told.Goals as goal
 

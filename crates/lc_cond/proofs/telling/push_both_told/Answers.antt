@@ -1,5 +1,5 @@
 use Rattle.std.proofs.lemmas.Result.{on_ok_weaker}
-use Rattle.lc_table.proofs.ByNumber.{are_columns_later, are_terms_later}
+use Rattle.lc_put.proofs.ByNumber.{are_columns_later, are_terms_later}
 use Rattle.lc_table.proofs.Later.{are_formulas_still, kept_on}
 use Rattle.lc_cond.proofs.Adding.{formulas_later, terms_later, columns_later, adds_on}
 use Rattle.lc_cond.proofs.telling.push_both_told.Goals as goal

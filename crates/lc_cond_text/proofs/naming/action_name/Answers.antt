@@ -4,8 +4,8 @@ use Rattle.lc_action.specs.Action as A
 use Rattle.lc_action.specs.ActionView.{action_of}
 use Rattle.lc_outline.specs.Development.{first_system}
 use Rattle.lc_outline.specs.DevelopmentView.{development_view}
-use Rattle.lc_naming.specs.ColumnNames.{name_at}
-use Rattle.lc_naming.proofs.Names.{named_first}
+use Rattle.lc_outline.specs.ColumnNames.{name_at}
+use Rattle.lc_outline.proofs.Names.{named_first}
 use Rattle.lc_cond_text.proofs.naming.action_name.Goals as goal
 
 pub returns-then-place-len : goal.returns-then-place-len

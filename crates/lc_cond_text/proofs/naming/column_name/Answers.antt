@@ -1,5 +1,5 @@
 use Rattle.std.proofs.Common.{ap, ◌∙◌}
-use Rattle.lc_naming.specs.ColumnNames.{column_names, name_at}
+use Rattle.lc_outline.specs.ColumnNames.{column_names, name_at}
 use Rattle.lc_cond_text.proofs.naming.column_name.Goals as goal
 
 pub returns : goal.returns

@@ -1,8 +1,8 @@
 use Rattle.std.proofs.Common.{◌<◌, map, length, ap, ◌∙◌, rules}
 use Rattle.lc_object.specs.Syntax as O
 use Rattle.lc_object.specs.View.{point_of}
-use Rattle.lc_naming.specs.ColumnNames.{name_at}
-use Rattle.lc_naming.proofs.Names.{named_alone}
+use Rattle.lc_outline.specs.ColumnNames.{name_at}
+use Rattle.lc_outline.proofs.Names.{named_alone}
 use Rattle.lc_cond_text.proofs.naming.point_name.Goals as goal
 
 pub returns-then-place-len : goal.returns-then-place-len

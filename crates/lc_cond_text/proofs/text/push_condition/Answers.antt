@@ -4,7 +4,7 @@ use Rattle.std.proofs.lemmas.Result.{on_ok_weaker}
 use Rattle.lc_text.specs.Spelled.{spaced, spelled_formula}
 use Rattle.lc_outline.specs.DevelopmentView.{development_view}
 use Rattle.lc_cond.specs.ConditionView.{condition_in}
-use Rattle.lc_naming.specs.ColumnNames.{name_at}
+use Rattle.lc_outline.specs.ColumnNames.{name_at}
 use Rattle.lc_cond_text.specs.ConditionText.{kind_word, or_hyphen, point_names, passage_text, which_text, spelled, formulas_text}
 use Rattle.lc_cond_text.proofs.Joined.{line_joined}
 use Rattle.lc_cond_text.proofs.text.push_condition.Goals as goal

@@ -1,7 +1,7 @@
 use Rattle.std.proofs.Common.{take, vec_len, subst, arith}
 use Rattle.std.proofs.lemmas.List.{take_all}
-use Rattle.lc_hist.specs.View.{event_of, events_of}
-use Rattle.lc_hist.specs.WellFormed.{client_of}
+use Rattle.lc_history.specs.View.{event_of, events_of}
+use Rattle.lc_history.specs.WellFormed.{client_of}
 use Rattle.lc_draw.specs.Counting.{IsUpTo}
 use Rattle.lc_draw.proofs.Turning.{events-more, few-calls}
 use Rattle.lc_draw.proofs.calls.calls_of.Goals as goal

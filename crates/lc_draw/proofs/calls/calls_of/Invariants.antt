@@ -1,5 +1,5 @@
 use Rattle.std.proofs.Common.{take, vec_len}
-use Rattle.lc_hist.specs.View.{events_of}
+use Rattle.lc_history.specs.View.{events_of}
 use Rattle.lc_draw.specs.Counting.{IsUpTo}
 use Rattle.lc_draw.proofs.calls.calls_of.Given as goal
 

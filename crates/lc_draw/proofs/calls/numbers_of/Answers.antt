@@ -1,5 +1,5 @@
 use Rattle.std.proofs.Common.{◌∙◌, [], arith}
-use Rattle.lc_hist.specs.JsonHistories.{entry_view, entries_view}
+use Rattle.lc_history.specs.View.{entry_view, entries_view}
 use Rattle.lc_draw.specs.Counting.{numbers_for}
 use Rattle.lc_draw.proofs.Turning.{entries-up, few-entries, numbers-done, numbers-more}
 use Rattle.lc_draw.proofs.calls.numbers_of.Goals as goal

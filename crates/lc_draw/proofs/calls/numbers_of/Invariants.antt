@@ -1,6 +1,6 @@
 use Rattle.std.proofs.Common.{◌≡◌, ℕ, ◌++◌, [], take, drop}
-use Rattle.lc_hist.specs.History.{count, is_of}
-use Rattle.lc_hist.specs.JsonHistories.{entries_view}
+use Rattle.lc_history.specs.History.{count, is_of}
+use Rattle.lc_history.specs.View.{entries_view}
 use Rattle.lc_draw.specs.Counting.{numbers_for, turns_of}
 use Rattle.lc_draw.proofs.calls.numbers_of.Given as goal
 

@@ -1,9 +1,10 @@
-use Rattle.std.proofs.Common.{[], map, string_bytes, vec_len}
-use Rattle.lc_hist.specs.Histories.{events_in}
-use Rattle.lc_hist.specs.History.{count}
-use Rattle.lc_hist.specs.JsonHistories.{entries_view}
-use Rattle.lc_hist.specs.WellFormed.{begins}
-use Rattle.lc_draw.specs.Drawings.{marked}
+use Rattle.std.proofs.Common.{[], map, option_map, string_bytes, vec_len}
+use Rattle.lc_history.specs.Histories.{events_in}
+use Rattle.lc_history.specs.History.{count}
+use Rattle.lc_history.specs.View.{entries_view}
+use Rattle.lc_history.specs.WellFormed.{begins}
+use Rattle.lc_draw.specs.Drawings.{event_in, marked}
+use Rattle.lc_draw.specs.declared.places.Cut.{Cut}
 use Rattle.lc_draw.specs.declared.places.Mark.{Mark}
 use Rattle.lc_draw.proofs.Drawn.{draws_so}
 use Rattle.lc_draw.proofs.picture.drawing.Goals as goal
@@ -12,5 +13,5 @@ pub returns : goal.returns
 returns c =
     let laid = c.in_ok-laid.laid in
     let events = events_in c.args.history.now in
-    draws_so (vec_len laid.bars) (count begins events) (map (λ (m : Mark). m.place) laid.marks.items) (marked events [] 0 (entries_view c.args.order.now)) (string_bytes c.in_ok-text.text) c.in_ok-laid.ensures.bars
-    c.in_ok-laid.ensures.marks c.in_ok-text.ensures
+    draws_so (vec_len laid.bars) (count begins events) (map (λ (m : Mark). m.place) laid.marks.items) (marked events [] 0 (entries_view c.args.order.now)) (option_map (λ (k : Cut). k.number) laid.cut) (event_in events c.args.event)
+    (string_bytes c.in_ok-text.text) c.in_ok-laid.ensures.bars c.in_ok-laid.ensures.marks c.in_ok-laid.ensures.cut c.in_ok-text.ensures

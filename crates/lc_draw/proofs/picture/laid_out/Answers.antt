@@ -1,8 +1,9 @@
 use Rattle.std.proofs.Common.{◌≡◌, ◌∙◌, ◌<◌, ℕ, Option, List, [], length, All, ap, sym, subst, vec_len, arith}
 use Rattle.std.specs.Prelude.{IfSome}
-use Rattle.lc_hist.specs.Histories.{events_in}
-use Rattle.lc_hist.specs.JsonHistories.{entries_view}
+use Rattle.lc_history.specs.Histories.{events_in}
+use Rattle.lc_history.specs.View.{entries_view}
 use Rattle.lc_draw.specs.Counting.{IsUpTo, numbered_places}
+use Rattle.lc_draw.specs.Drawings.{event_in}
 use Rattle.lc_draw.proofs.Turning.{numbers-are, places-are}
 use Rattle.lc_draw.proofs.picture.laid_out.Goals as goal
 
@@ -30,3 +31,6 @@ returns-clause-marks c =
     let up = subst (λ es. IsUpTo es (vec_len calls.calls) calls.turns.entries calls.numbers.entries) c.events.ensures c.in_ok-calls.ensures in
     let are = numbers-are events order (vec_len calls.calls) calls.turns.entries calls.numbers.entries up in
     c.in_ok-marks.ensures ∙ (ap (numbered_places 0) (c.deref-4.ensures.value ∙ c.in_ok-bar_of_entry.ensures) ∙ places-are events [] order 0 _ are.which)
+
+pub returns-clause-cut : goal.returns-clause-cut
+returns-clause-cut c = c.cut_of-cut.ensures ∙ ap (λ es. event_in es c.args.event) c.events-2.ensures

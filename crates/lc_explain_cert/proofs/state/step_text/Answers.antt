@@ -3,7 +3,7 @@ use Rattle.std.proofs.lemmas.List.{length-map}
 use Rattle.lc_explain_cert.proofs.Parted.{goal_shows_state}
 use Rattle.lc_explain_cert.specs.Names.{spelled}
 use Rattle.lc_kernel.specs.View.{proof_of}
-use Rattle.lc_standing.specs.Standing.{IsStanding}
+use Rattle.lc_proof_state.specs.Standing.{IsStanding}
 use Rattle.lc_table.specs.Tables.{formula_in, formulas_in}
 use Rattle.lc_term.specs.View.{formulas_of}
 use Rattle.lc_explain_cert.proofs.state.step_text.Goals as goal

@@ -6,10 +6,11 @@ use Rattle.lc_outline.specs.DevelopmentView.{development_view}
 use Rattle.lc_cert.specs.Certificates.{proof_at}
 use Rattle.lc_check.proofs.Walking.{same_due}
 use Rattle.lc_check.specs.Walking.{IsProvenOn}
-use Rattle.lc_find.proofs.FirstHints.{not_hinted, none_hinted, few_at}
+use Rattle.lc_find.proofs.FirstHints.{not_hinted, none_hinted}
 use Rattle.lc_find.proofs.Places.{none_of_map}
 use Rattle.lc_find.specs.FirstView.{all_of}
 use Rattle.lc_find.proofs.taking.hinted_entry.Goals as goal
+use Rattle.lc_carry.proofs.Few.{few_at}
 
 pub prove_next-requires-clause-steps : goal.prove_next-requires-clause-steps
 prove_next-requires-clause-steps c =

@@ -1,7 +1,7 @@
 use Rattle.std.proofs.Common.{map, sym, ap, ◌∙◌, subst, Err}
 use Rattle.lc_sexp.specs.Shown.{rest_of, number_of, owner_of}
 use Rattle.lc_cert.specs.Certificates.{HaveFewSteps}
-use Rattle.lc_naming.specs.ColumnNames.{column_names}
+use Rattle.lc_outline.specs.ColumnNames.{column_names}
 use Rattle.lc_cert.specs.Printed.{EntryReadsBack}
 use Rattle.lc_outline.specs.DevelopmentView.{development_view}
 use Rattle.lc_reading.specs.Results.{IsReadFault}

@@ -1,7 +1,7 @@
 use Rattle.std.proofs.Common.{◌≤◌, length, refl, arith}
 use Rattle.std.specs.Prelude.{IsUtf8}
 use Rattle.lc_base.specs.Limits.{file_limit}
-use Rattle.lc_hist.specs.Histories.{events_in}
+use Rattle.lc_history.specs.Histories.{events_in}
 use Rattle.lc_hist.specs.JsonRecorded.{order_view}
 use Rattle.lc_hist.specs.JsonSeen.{all_of, AreInText}
 use Rattle.lc_hist.specs.JsonTokens.{AreSaid}

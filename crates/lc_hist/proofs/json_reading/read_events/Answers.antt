@@ -3,8 +3,8 @@ use Rattle.std.proofs.lemmas.List.{map-append, length-map}
 use Rattle.lc_hist.specs.JsonItems.{data_at, values_at}
 use Rattle.lc_hist.specs.JsonSeen.{all_of, number_of, open_of, may_follow}
 use Rattle.lc_hist.specs.JsonValues.{event_in}
-use Rattle.lc_hist.specs.View.{event_of, events_of}
-use Rattle.lc_hist.specs.WellFormed.{client_of}
+use Rattle.lc_history.specs.View.{event_of, events_of}
+use Rattle.lc_history.specs.WellFormed.{client_of}
 use Rattle.lc_hist.proofs.JsonAnswers.{refused_weaker, wrong_event, no_form, events_are_formed}
 use Rattle.lc_hist.proofs.JsonEvents.{is_no_next, is_next, next_event, open_next, number_cond, may_follow_busy, within_limit}
 use Rattle.lc_hist.proofs.JsonLists.{one_read}

@@ -3,7 +3,7 @@ use Rattle.serde_json.specs.Data.{Data}
 use Rattle.lc_hist.specs.JsonHistories.{AreEvents}
 use Rattle.lc_hist.specs.JsonItems.{values_at}
 use Rattle.lc_hist.specs.JsonSeen.{all_of, open_of, number_of}
-use Rattle.lc_hist.specs.View.{events_of}
+use Rattle.lc_history.specs.View.{events_of}
 use Rattle.lc_hist.proofs.JsonEvents.{AreOpen}
 use Rattle.lc_hist.proofs.json_reading.read_events.Given as goal
 

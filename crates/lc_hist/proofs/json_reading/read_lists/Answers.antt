@@ -1,11 +1,11 @@
 use Rattle.std.proofs.Common.{◌≡◌, ◌+◌, ap, subst, length, ◌∙◌, sym}
 use Rattle.std.proofs.lemmas.List.{length-map}
 use Rattle.std.proofs.lemmas.Result.{err_from_is_err_and}
-use Rattle.lc_hist.specs.Histories.{events_in}
+use Rattle.lc_history.specs.Histories.{events_in}
 use Rattle.lc_hist.specs.JsonHistories.{Parts, IsRefusedAt}
 use Rattle.lc_hist.specs.JsonItems.{values_at}
 use Rattle.lc_hist.specs.JsonSeen.{all_of, order_values, IsWrongInParts, IsWrongEntryItem}
-use Rattle.lc_hist.specs.View.{event_of}
+use Rattle.lc_history.specs.View.{event_of}
 use Rattle.lc_hist.proofs.JsonAnswers.{refused_weaker, count_of_events, wrong_in_order}
 use Rattle.lc_hist.proofs.json_reading.read_lists.Goals as goal
 

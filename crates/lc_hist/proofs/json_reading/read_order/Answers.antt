@@ -1,6 +1,6 @@
 use Rattle.std.proofs.Common.{◌≡◌, Some, None, [], ◌∷◌, ◌++◌, option_map, ap, sym, ◌∙◌, arith}
 use Rattle.std.proofs.lemmas.List.{map-append, length-map}
-use Rattle.lc_hist.specs.JsonHistories.{entry_view, entries_view}
+use Rattle.lc_history.specs.View.{entry_view, entries_view}
 use Rattle.lc_hist.specs.JsonItems.{data_at, values_at}
 use Rattle.lc_hist.specs.JsonSeen.{all_of}
 use Rattle.lc_hist.specs.JsonValues.{entry_in}

@@ -1,6 +1,7 @@
 use Rattle.std.proofs.Common.{◌≡◌, List, ◌++◌, length}
 use Rattle.serde_json.specs.Data.{Data}
-use Rattle.lc_hist.specs.JsonHistories.{AreEntries, entries_view}
+use Rattle.lc_hist.specs.JsonHistories.{AreEntries}
+use Rattle.lc_history.specs.View.{entries_view}
 use Rattle.lc_hist.specs.JsonItems.{values_at}
 use Rattle.lc_hist.specs.JsonSeen.{all_of}
 use Rattle.lc_hist.proofs.json_reading.read_order.Given as goal

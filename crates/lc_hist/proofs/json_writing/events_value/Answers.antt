@@ -2,9 +2,9 @@ use Rattle.std.proofs.Common.{arith, add-one}
 use Rattle.lc_seq.specs.SpecView.{operations_of}
 use Rattle.lc_hist.specs.JsonKept.{IsKeptEvent}
 use Rattle.lc_hist.specs.JsonWritten.{event_data}
-use Rattle.lc_hist.specs.View.{event_of, events_of}
+use Rattle.lc_history.specs.View.{event_of, events_of}
 use Rattle.lc_hist.proofs.JsonLists.{each-next, written_next}
-use Rattle.lc_hist.proofs.Turns.{event_at}
+use Rattle.lc_history.proofs.Turns.{event_at}
 use Rattle.lc_hist.proofs.json_writing.events_value.Goals as goal
 
 pub loop-event-preserved : goal.loop-event-preserved

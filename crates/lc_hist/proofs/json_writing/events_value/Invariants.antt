@@ -3,7 +3,7 @@ use Rattle.serde_json.specs.View.{view}
 use Rattle.lc_seq.specs.SpecView.{operations_of}
 use Rattle.lc_hist.specs.JsonKept.{Each, IsKeptEvent}
 use Rattle.lc_hist.specs.JsonWritten.{event_data}
-use Rattle.lc_hist.specs.View.{events_of}
+use Rattle.lc_history.specs.View.{events_of}
 use Rattle.lc_hist.proofs.json_writing.events_value.Given as goal
 
 abbrev pub invariant-loop-event : goal.invariant-loop-event

@@ -1,14 +1,13 @@
 use Rattle.std.proofs.Common.{◌≡◌, subst, ◌∙◌}
 use Rattle.serde_json.specs.View.{view}
-use Rattle.lc_term.proofs.Tests.{right_true}
+use Rattle.lc_lemmas.proofs.Booleans.{right_true}
 use Rattle.lc_seq.specs.Specification.{names_differ}
 use Rattle.lc_seq.specs.SpecView.{operations_of}
 use Rattle.lc_seq.specs.TextView.{specification_of}
-use Rattle.lc_hist.specs.Histories.{events_in}
-use Rattle.lc_hist.specs.JsonHistories.{entries_view}
+use Rattle.lc_history.specs.Histories.{events_in}
 use Rattle.lc_hist.specs.JsonKept.{Each, IsKeptEvent}
 use Rattle.lc_hist.specs.JsonWritten.{history_data}
-use Rattle.lc_hist.specs.View.{events_of}
+use Rattle.lc_history.specs.View.{events_of, entries_view}
 use Rattle.lc_hist.proofs.JsonWriting.{history_is_read, history_written, history_reads, says_only}
 use Rattle.lc_hist.proofs.NamesApart.{names_apart}
 use Rattle.lc_hist.proofs.json_writing.history_to_json.Goals as goal

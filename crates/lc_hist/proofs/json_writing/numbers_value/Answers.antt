@@ -1,10 +1,11 @@
 use Rattle.std.proofs.Common.{◌≡◌, Some, ap, sym, subst, ◌∙◌, map, arith, add-one, rules, to_z, of_z, w64, get_or, pos}
 use Rattle.std.proofs.lemmas.Option.{slice_get-get_or}
 use Rattle.serde_json.specs.View.{view}
+use Rattle.lc_lemmas.proofs.Lists.{taken_all}
 use Rattle.lc_hist.specs.JsonKept.{Each}
 use Rattle.lc_hist.specs.JsonValues.{all_in, number_in}
 use Rattle.lc_hist.specs.JsonWritten.{number_data}
-use Rattle.lc_hist.proofs.JsonLists.{each-next, written_next, kept_numbers, values_in-items_of, take_past}
+use Rattle.lc_hist.proofs.JsonLists.{each-next, written_next, kept_numbers, values_in-items_of}
 use Rattle.lc_hist.proofs.json_writing.numbers_value.Goals as goal
 
 pub loop-number-preserved : goal.loop-number-preserved
@@ -24,5 +25,5 @@ loop-number-preserved c =
 pub returns-clause-kept : goal.returns-clause-kept
 returns-clause-kept c =
     let zs = c.args.numbers.now in
-    let whole = take_past zs c.loop-number.number-index c.loop-number-test.false in
+    let whole = taken_all zs c.loop-number.number-index c.loop-number-test.false in
     ap (all_in number_in) (values_in-items_of (map number_data zs)) ∙ kept_numbers zs (subst (Each (λ z. number_in (number_data z) ≡ Some z)) whole c.loop-number.invariant.kept)

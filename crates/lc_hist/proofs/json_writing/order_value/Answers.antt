@@ -2,11 +2,12 @@ use Rattle.std.proofs.Common.{◌≡◌, Some, slice_get, length, ap, subst, ref
 use Rattle.std.proofs.lemmas.List.{length-map}
 use Rattle.std.proofs.lemmas.Option.{slice_get-map, slice_get_read}
 use Rattle.std.specs.Prelude.{option_map}
+use Rattle.lc_lemmas.proofs.Lists.{taken_all}
 use Rattle.lc_seq.specs.SpecView.{operations_of}
-use Rattle.lc_hist.specs.JsonHistories.{entry_view, entries_view}
+use Rattle.lc_history.specs.View.{entry_view, entries_view}
 use Rattle.lc_hist.specs.JsonKept.{Each, IsKeptEntry}
 use Rattle.lc_hist.specs.JsonWritten.{entry_data}
-use Rattle.lc_hist.proofs.JsonLists.{each-next, written_next, take_past}
+use Rattle.lc_hist.proofs.JsonLists.{each-next, written_next}
 use Rattle.lc_hist.proofs.json_writing.order_value.Goals as goal
 
 pub loop-done-preserved : goal.loop-done-preserved
@@ -24,5 +25,5 @@ loop-done-preserved c =
 pub returns-clause-kept : goal.returns-clause-kept
 returns-clause-kept c =
     let order = entries_view c.args.order.now in
-    let whole = take_past order c.loop-done.done-index (omega (arith, length-map c.args.order.now entry_view)) in
+    let whole = taken_all order c.loop-done.done-index (omega (arith, length-map c.args.order.now entry_view)) in
     subst (Each IsKeptEntry) whole c.loop-done.invariant.kept

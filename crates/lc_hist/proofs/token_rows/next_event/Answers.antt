@@ -2,7 +2,7 @@ use Rattle.std.proofs.Common.{◌≡◌, ◌∷◌, Some, arith}
 use Rattle.json.specs.Json.{after_end_array}
 use Rattle.json.specs.Token.{Token}
 use Rattle.lc_hist.specs.JsonSeen.{all_of}
-use Rattle.lc_hist.specs.View.{event_of}
+use Rattle.lc_history.specs.View.{event_of}
 use Rattle.lc_hist.proofs.JsonRows.{event_read}
 use Rattle.lc_hist.proofs.token_rows.next_event.Goals as goal
 

@@ -5,8 +5,8 @@ use Rattle.json.specs.Token.{Token}
 use Rattle.lc_hist.specs.JsonHistories.{AreEvents}
 use Rattle.lc_hist.specs.JsonSeen.{all_of, number_of, open_of, may_follow}
 use Rattle.lc_hist.specs.JsonTokens.{Begins}
-use Rattle.lc_hist.specs.View.{event_of, events_of}
-use Rattle.lc_hist.specs.WellFormed.{client_of}
+use Rattle.lc_history.specs.View.{event_of, events_of}
+use Rattle.lc_history.specs.WellFormed.{client_of}
 use Rattle.lc_hist.proofs.JsonAnswers.{events_are_formed}
 use Rattle.lc_hist.proofs.JsonEvents.{AreOpen, is_next, next_event, open_next, number_cond, may_follow_busy, within_limit}
 use Rattle.lc_hist.proofs.JsonTokens.{row_begins, row_next, row_ends, begins-shorter}

@@ -2,7 +2,7 @@ use Rattle.std.proofs.Common.{List, length}
 use Rattle.serde_json.specs.Data.{Data}
 use Rattle.lc_hist.specs.JsonHistories.{AreEvents}
 use Rattle.lc_hist.specs.JsonSeen.{all_of, open_of, number_of}
-use Rattle.lc_hist.specs.View.{events_of}
+use Rattle.lc_history.specs.View.{events_of}
 use Rattle.lc_hist.proofs.JsonEvents.{AreOpen}
 use Rattle.lc_hist.proofs.JsonTokens.{BeginsRow}
 use Rattle.lc_hist.proofs.token_rows.next_history.Given as goal

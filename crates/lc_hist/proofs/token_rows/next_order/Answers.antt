@@ -2,7 +2,7 @@ use Rattle.std.proofs.Common.{◌≡◌, Some, ◌++◌, ◌∷◌, [], ap, sym,
 use Rattle.std.proofs.lemmas.List.{map-append}
 use Rattle.json.specs.Json.{after_end_array}
 use Rattle.json.specs.Token.{Token}
-use Rattle.lc_hist.specs.JsonHistories.{entry_view, entries_view}
+use Rattle.lc_history.specs.View.{entry_view, entries_view}
 use Rattle.lc_hist.specs.JsonSeen.{all_of}
 use Rattle.lc_hist.specs.JsonTokens.{Begins}
 use Rattle.lc_hist.specs.JsonValues.{entry_in}

@@ -1,7 +1,7 @@
 use Rattle.std.proofs.Common.{◌≡◌, ◌∷◌, sym, ◌∙◌, arith}
 use Rattle.json.specs.Lex.{tokens}
 use Rattle.json.specs.Token.{Token}
-use Rattle.lc_hist.specs.Histories.{events_in}
+use Rattle.lc_history.specs.Histories.{events_in}
 use Rattle.lc_hist.specs.JsonRecorded.{order_view}
 use Rattle.lc_hist.specs.JsonSeen.{all_of}
 use Rattle.lc_hist.specs.JsonTokens.{AreMembers, AreSaid}

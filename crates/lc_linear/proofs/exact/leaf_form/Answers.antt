@@ -4,7 +4,7 @@ use Rattle.std.proofs.lemmas.Int.{ints}
 use Rattle.lc_table.specs.Nodes.{term_of_node}
 use Rattle.lc_term.specs.Syntax as S
 use Rattle.lc_table.specs.Tables.{parts, term_in, column_in}
-use Rattle.lc_linear.specs.Form.{form_of, HasForm}
+use Rattle.lc_linear.specs.Form.{HasForm}
 use Rattle.lc_linear.specs.LinForm.{numbers}
 use Rattle.lc_linear.proofs.Faults.{passed_on}
 use Rattle.lc_linear.proofs.Made.{number_given, atom_given}

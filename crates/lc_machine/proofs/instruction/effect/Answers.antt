@@ -1,6 +1,7 @@
 use Rattle.std.proofs.Common.{◌≡◌, ap, sym, ◌∙◌, subst, Some}
 use Rattle.std.specs.Prelude.{slice_get}
 use Rattle.std.proofs.lemmas.Option.{same_Some}
+use Rattle.lc_lemmas.proofs.Lists.{viewed_at}
 use Rattle.lc_term.specs.State.{state_of, variable_count}
 use Rattle.lc_object.specs.Objects.{object_view}
 use Rattle.lc_object.specs.Syntax as S
@@ -8,7 +9,6 @@ use Rattle.lc_object.specs.View.{point_of, parts_of}
 use Rattle.lc_machine.specs.Effects.{IsEffect}
 use Rattle.lc_machine.specs.MayRun.{MayRun, variables_at}
 use Rattle.lc_machine.specs.View.{variables_of}
-use Rattle.lc_machine.proofs.ArrayColumns.{viewed_at}
 use Rattle.lc_machine.proofs.Promised.{may_run, point_with_variables}
 use Rattle.lc_machine.proofs.instruction.effect.Goals as goal
 

@@ -1,5 +1,6 @@
 use Rattle.std.proofs.Common.{◌<◌, ◌≤◌, sym, subst, length}
 use Rattle.std.proofs.lemmas.List.{length-map}
+use Rattle.lc_lemmas.proofs.Lists.{viewed_at}
 use Rattle.lc_base.specs.declared.ids.ColId.{ColId}
 use Rattle.lc_base.specs.Limits.{width_limit}
 use Rattle.lc_object.specs.Objects.{object_view}
@@ -7,7 +8,7 @@ use Rattle.lc_object.specs.Syntax as S
 use Rattle.lc_object.specs.View.{array_of, columns_of, parts_of}
 use Rattle.lc_machine.specs.World.{initial_numbers}
 use Rattle.lc_machine.specs.Below.{AreBelow}
-use Rattle.lc_machine.proofs.ArrayColumns.{few_columns, concrete_columns, viewed_at}
+use Rattle.lc_machine.proofs.ArrayColumns.{few_columns, concrete_columns}
 use Rattle.lc_machine.proofs.instruction.row_columns.Goals as goal
 
 pub returns-clause-few : goal.returns-clause-few

@@ -2,13 +2,14 @@ use Rattle.std.proofs.Common.{◌≡◌, w64, ◌+◌, true, length, drop, ◌�
 use Rattle.std.specs.Prelude.{FitsSigned}
 use Rattle.std.proofs.lemmas.Int.{to_z-of_z}
 use Rattle.std.proofs.lemmas.List.{length-append, drop_more}
+use Rattle.lc_lemmas.proofs.Booleans.{left_true, right_true}
 use Rattle.lc_object.specs.View.{terms_of}
 use Rattle.lc_object.specs.WellFormed.{are_code_terms, is_code_term}
 use Rattle.lc_term.specs.View.{term_of}
 use Rattle.lc_term.specs.State.{state_of, variable_count, column_count}
 use Rattle.lc_term.specs.Reached.{TermsFit}
 use Rattle.lc_machine.specs.World.{variable}
-use Rattle.lc_machine.proofs.Known.{known_term, left_true, right_true, one_more}
+use Rattle.lc_machine.proofs.Known.{known_term, one_more}
 use Rattle.lc_machine.proofs.numbers.compute.Goals as goal
 
 pub eval_term-requires : goal.eval_term-requires

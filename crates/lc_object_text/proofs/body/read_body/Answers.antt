@@ -2,8 +2,8 @@ use Rattle.std.specs.Prelude.{codes}
 use Rattle.lc_object_text.specs.DeclaredView.{declared_view, body_view}
 use Rattle.lc_object_text.specs.Points.{body_parts}
 use Rattle.lc_object_text.specs.Texts.{body_text_view}
-use Rattle.lc_object_text.proofs.Behind.{behind_read, behind_wrong}
 use Rattle.lc_object_text.proofs.body.read_body.Goals as goal
+use Rattle.lc_reading.proofs.Parts.{behind_read, behind_wrong}
 
 pub returns : goal.returns
 returns g c =

@@ -1,9 +1,9 @@
 use Rattle.std.specs.Prelude.{codes}
-use Rattle.lc_object_text.proofs.Behind.{behind_read, behind_wrong}
 use Rattle.lc_object_text.specs.DeclaredView.{declared_view}
 use Rattle.lc_object_text.specs.Objects.{specification_parts}
 use Rattle.lc_object_text.specs.Texts.{specification_view}
 use Rattle.lc_object_text.proofs.signatures.read_specification.Goals as goal
+use Rattle.lc_reading.proofs.Parts.{behind_read, behind_wrong}
 
 pub returns : goal.returns
 returns c = behind_read specification_view (codes "spec") (specification_parts (declared_view c.args.declared.now)) c.args.part c.in_ok-parts.parts _ c.in_ok-parts.ensures c.read_specification_parts.ensures

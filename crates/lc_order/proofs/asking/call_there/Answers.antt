@@ -1,10 +1,10 @@
 use Rattle.std.proofs.Common.{◌≡◌, ℕ, Some, MatchOption, IfSome, slice_get, ap, subst, sym, ◌∙◌}
 use Rattle.lc_seq.specs.Sequential.{Call}
-use Rattle.lc_hist.specs.History.{Replied}
-use Rattle.lc_hist.specs.Tests.{IsCallOf}
-use Rattle.lc_hist.specs.View.{events_of}
-use Rattle.lc_hist.specs.declared.event.Event.TheVariants.{Invoke}
-use Rattle.lc_hist.proofs.Tables.{element_at}
+use Rattle.lc_history.specs.History.{Replied}
+use Rattle.lc_history.specs.Tests.{IsCallOf}
+use Rattle.lc_history.specs.View.{events_of}
+use Rattle.lc_history.specs.declared.event.Event.TheVariants.{Invoke}
+use Rattle.lc_history.proofs.Tables.{element_at}
 use Rattle.lc_order.proofs.Places.{one_call, call_found, reply_found}
 use Rattle.lc_order.proofs.asking.call_there.Goals as goal
 

@@ -1,5 +1,5 @@
 use Rattle.std.proofs.Common.{take}
-use Rattle.lc_hist.specs.View.{events_of}
+use Rattle.lc_history.specs.View.{events_of}
 use Rattle.lc_order.specs.Rosters.{IsRosterOf}
 use Rattle.lc_order.proofs.roster.roster_of.Given as goal
 

@@ -3,7 +3,7 @@ use Rattle.lc_outline.specs.PartsView.{parts_view}
 use Rattle.lc_reading.specs.Words.{names_in}
 use Rattle.lc_sexp.specs.Printed.{printed_tree}
 use Rattle.lc_outline_print.specs.Developments.{object_tree, development_printed}
-use Rattle.lc_naming.specs.ColumnNames.{column_names}
+use Rattle.lc_outline.specs.ColumnNames.{column_names}
 use Rattle.lc_outline_print.specs.Specifications.{specification_tree}
 use Rattle.lc_outline_print.proofs.Forms.{lines_text}
 use Rattle.lc_outline_print.proofs.development.development_text.Goals as goal

@@ -8,7 +8,7 @@ use Rattle.lc_sexp.specs.Printed.{printed_others}
 use Rattle.lc_sexp.specs.Trees.{row}
 use Rattle.lc_outline_print.specs.Beside.{action_tree}
 use Rattle.lc_outline_print.specs.Developments.{auxiliary_tree}
-use Rattle.lc_naming.specs.ColumnNames.{column_names}
+use Rattle.lc_outline.specs.ColumnNames.{column_names}
 use Rattle.lc_outline_print.specs.Objects.{array_tree}
 use Rattle.lc_outline_print.proofs.Forms.{tables_text}
 use Rattle.lc_outline_print.proofs.development.write_tables.Goals as goal

@@ -5,7 +5,7 @@ use Rattle.lc_sexp.specs.Shown.{rest_of}
 use Rattle.lc_object_text.specs.Sections.{forms_in}
 use Rattle.lc_object_text.specs.Seen.{size}
 use Rattle.lc_reading.specs.TableView.{listed}
-use Rattle.lc_naming.specs.EdgeWords.{edge_word}
+use Rattle.lc_outline.specs.EdgeWords.{edge_word}
 use Rattle.lc_outline_text.specs.Needs.{stores, rides, acts}
 use Rattle.lc_outline_text.proofs.needs.lacks_at.Given as goal
 

@@ -1,7 +1,7 @@
 use Rattle.std.proofs.Common.{◌≡◌, ◌++◌, ap, subst, ◌∙◌}
 use Rattle.std.specs.Prelude.{IfOk}
-use Rattle.lc_hist.specs.Histories.{events_in}
-use Rattle.lc_hist.specs.JsonHistories.{entries_view}
+use Rattle.lc_history.specs.Histories.{events_in}
+use Rattle.lc_history.specs.View.{entries_view}
 use Rattle.lc_seq.specs.SpecView.{operations_of}
 use Rattle.lc_page.specs.Pages.{page_with}
 use Rattle.lc_page.specs.Unmarked.{unmarked}

@@ -1,14 +1,14 @@
 use Rattle.std.proofs.Common.{codes, sym, subst}
 use Rattle.lc_reading.proofs.Sections.{behind_reading-is}
 use Rattle.lc_reading.specs.Results.{IsReading}
-use Rattle.lc_plan.proofs.Parts.{other_list}
 use Rattle.lc_plan.specs.Readings.{plan_parts_reading}
 use Rattle.lc_plan.specs.View.{all_in, plan_of}
 use Rattle.lc_plan.proofs.reading.read_form.Goals as goal
+use Rattle.lc_reading.proofs.Parts.{behind_wrong}
 
 pub returns-in_err-list : goal.returns-in_err-list
 returns-in_err-list c =
-    other_list plan_of (codes "plan") (plan_parts_reading (all_in c.args.operations.now)) c.args.part _ c.from_residual.result c.in_err-list.ensures c.from_residual.ensures.1
+    behind_wrong plan_of (codes "plan") (plan_parts_reading (all_in c.args.operations.now)) c.args.part _ c.from_residual.result c.in_err-list.ensures c.from_residual.ensures.1
 
 pub returns : goal.returns
 returns c =

@@ -4,7 +4,7 @@ use Rattle.std.proofs.lemmas.Result.{IfOk-weaker}
 use Rattle.lc_cert.specs.ColumnNames.{names_with}
 use Rattle.lc_cert.specs.EntryView.{entry_of}
 use Rattle.lc_cert.specs.OneByOne.{IsReadAlone}
-use Rattle.lc_naming.specs.ColumnNames.{column_names}
+use Rattle.lc_outline.specs.ColumnNames.{column_names}
 use Rattle.lc_pool.specs.Desks.{development_in, cuts_in, items_in}
 use Rattle.lc_pool.proofs.desk.is_known.Goals as goal
 

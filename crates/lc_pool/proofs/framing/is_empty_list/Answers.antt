@@ -1,7 +1,8 @@
 use Rattle.std.proofs.Common.{◌≡◌, true, ◌==◌, sym, ◌∙◌}
 use Rattle.lc_sexp.specs.Shown.{rest_of, part_count}
-use Rattle.lc_pool.proofs.Frames.{gave_list, none_alone}
+use Rattle.lc_pool.proofs.Frames.{none_alone}
 use Rattle.lc_pool.proofs.framing.is_empty_list.Goals as goal
+use Rattle.lc_sexp.proofs.Pieced.{gave_list}
 
 pub returns-then-is_empty : goal.returns-then-is_empty
 returns-then-is_empty c = λ ended.

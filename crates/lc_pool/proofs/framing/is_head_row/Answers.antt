@@ -1,8 +1,9 @@
 use Rattle.std.proofs.Common.{◌≡◌, true, codes, ◌==◌, sym, ◌∙◌}
 use Rattle.lc_sexp.specs.Shown.{rest_of, text_of, part_count}
 use Rattle.lc_reading.specs.Words.{is}
-use Rattle.lc_pool.proofs.Frames.{gave_list, gave_atom, two_alone}
+use Rattle.lc_pool.proofs.Frames.{gave_atom, two_alone}
 use Rattle.lc_pool.proofs.framing.is_head_row.Goals as goal
+use Rattle.lc_sexp.proofs.Pieced.{gave_list}
 
 pub returns-then-eq : goal.returns-then-eq
 returns-then-eq c = λ same.

@@ -1,15 +1,15 @@
 use Rattle.std.proofs.Common.{[], codes}
 use Rattle.lc_term.specs.View.{formula_of}
 use Rattle.lc_text.specs.Formulas.{formula_reading}
-use Rattle.lc_proof_text.proofs.Behind.{behind_ok, behind_err}
 use Rattle.lc_proof_text.specs.FileNames.{claim_names, declared_of}
 use Rattle.lc_proof_text.specs.Files.{only}
 use Rattle.lc_proof_text.proofs.formula.read_goal.Goals as goal
+use Rattle.lc_reading.proofs.Parts.{behind_read, behind_wrong}
 
 pub returns-in_err-list : goal.returns-in_err-list
 returns-in_err-list c =
-    behind_err formula_of (codes "goal") (only (formula_reading (claim_names (declared_of c.args.declared.now)) [])) c.args.part _ c.from_residual.result c.in_err-list.ensures c.from_residual.ensures.1
+    behind_wrong formula_of (codes "goal") (only (formula_reading (claim_names (declared_of c.args.declared.now)) [])) c.args.part _ c.from_residual.result c.in_err-list.ensures c.from_residual.ensures.1
 
 pub returns : goal.returns
 returns c =
-    behind_ok formula_of (codes "goal") (only (formula_reading (claim_names (declared_of c.args.declared.now)) [])) c.args.part c.in_ok-list.list c.read_only_formula.result c.in_ok-list.ensures c.read_only_formula.ensures
+    behind_read formula_of (codes "goal") (only (formula_reading (claim_names (declared_of c.args.declared.now)) [])) c.args.part c.in_ok-list.list c.read_only_formula.result c.in_ok-list.ensures c.read_only_formula.ensures

@@ -6,10 +6,11 @@ use Rattle.lc_reading.specs.Naming.{names_reading}
 use Rattle.lc_reading.specs.Parts.{tree_of, place_of}
 use Rattle.lc_reading.specs.Results.{IsReading}
 use Rattle.lc_reading.specs.TableView.{listed}
-use Rattle.lc_proof_text.proofs.Behind.{behind_ok, behind_err, names_behind-is, names_behind-other}
+use Rattle.lc_proof_text.proofs.Behind.{names_behind-is, names_behind-other}
 use Rattle.lc_proof_text.specs.FileNames.{names_behind}
 use Rattle.lc_proof_text.specs.Files.{section_reading}
 use Rattle.lc_proof_text.proofs.names.read_section.Goals as goal
+use Rattle.lc_reading.proofs.Parts.{behind_read, behind_wrong}
 
 pub returns-in-Ok-clause-names : goal.returns-in-Ok-clause-names
 returns-in-Ok-clause-names c =
@@ -25,7 +26,7 @@ returns-in-Ok-clause-wrong c =
     let left = c.in-Ok.list in
     IfOk-weaker c.read_names.result (λ r. IsReading (λ (u : Unit {0}). u) (names_reading c.args.limit (listed c.new-names.result) (number_of left) (rest_of left)) r.1)
     (λ r. IsReading (λ (u : Unit {0}). u) (section_reading word c.args.limit (place_of c.args.part) (tree_of c.args.part)) r.1)
-    (λ r h. behind_ok (λ (u : Unit {0}). u) word (λ n m ts. names_reading c.args.limit [] m ts) c.args.part left r.1 c.in-Ok.ensures (rw c.new-names.ensures at h))
+    (λ r h. behind_read (λ (u : Unit {0}). u) word (λ n m ts. names_reading c.args.limit [] m ts) c.args.part left r.1 c.in-Ok.ensures (rw c.new-names.ensures at h))
     c.read_names.ensures.wrong
 
 pub returns-in-Err-clause-names : goal.returns-in-Err-clause-names
@@ -33,4 +34,4 @@ returns-in-Err-clause-names c = c.new-names.ensures ∙ sym (names_behind-other 
 
 pub returns-in-Err-clause-wrong : goal.returns-in-Err-clause-wrong
 returns-in-Err-clause-wrong c =
-    behind_err (λ (u : Unit {0}). u) c.args.word.now (λ n m ts. names_reading c.args.limit [] m ts) c.args.part c.in-Err.misfit (Err c.from.result) c.in-Err.ensures c.from.ensures
+    behind_wrong (λ (u : Unit {0}). u) c.args.word.now (λ n m ts. names_reading c.args.limit [] m ts) c.args.part c.in-Err.misfit (Err c.from.result) c.in-Err.ensures c.from.ensures

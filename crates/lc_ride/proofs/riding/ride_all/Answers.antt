@@ -1,10 +1,11 @@
 use Rattle.std.proofs.Common.{◌≡◌, ◌+◌, ◌∷◌, true, false, Ok, drop, arith, rules, ap, sym, subst}
 use Rattle.std.specs.List.{list_all}
+use Rattle.lc_lemmas.proofs.Lists.{drop_at_element, dropped_all}
+use Rattle.lc_lemmas.proofs.Booleans.{right_true}
 use Rattle.lc_term.specs.Drafts.{written_in_draft, saved_in_draft, draft_columns}
 use Rattle.lc_term.specs.State.{env_of, variable_count}
 use Rattle.lc_action.specs.ActionView.{first_of}
 use Rattle.lc_seq.specs.SpecView.{operations_of}
-use Rattle.lc_seq.proofs.Runs.{drop_at_element, dropped_all, and_right}
 use Rattle.lc_rider.specs.RiderView.{rider_of, riders_of}
 use Rattle.lc_ride.specs.Riding.{do_rider, do_all}
 use Rattle.lc_ride.specs.RidingFits.{RiderFits, RidersFit}
@@ -89,7 +90,7 @@ loop-rider-preserved c =
     let one : IsRidden (RiderFits ops first x o e m r) (do_rider ops first x o e m r) marks new mid (Ok true) =
     subst (λ b. IsRidden (RiderFits ops first x o e m r) (do_rider ops first x o e m r) marks new mid (Ok b)) is-done c.in_ok-do_rider.ensures.done in
     let seen : list_all (rider_is_evaluable n v) rs ≡ true =
-    and_right (rider_is_evaluable n v r) (list_all (rider_is_evaluable n v) rs) (subst (λ xs. list_all (rider_is_evaluable n v) xs ≡ true) front c.loop-rider.invariant.seen) in
+    right_true (rider_is_evaluable n v r) (list_all (rider_is_evaluable n v) rs) (subst (λ xs. list_all (rider_is_evaluable n v) xs ≡ true) front c.loop-rider.invariant.seen) in
     let columns : draft_columns c.do_rider.new.draft ≡ n = search rules in
     let from-start : draft_columns c.do_rider.new.draft ≡ draft_columns c.args.draft.now = search rules in
     let saved : saved_in_draft c.do_rider.new.draft ≡ saved_in_draft c.args.draft.now = search rules in

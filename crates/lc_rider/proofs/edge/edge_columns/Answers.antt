@@ -1,8 +1,8 @@
 use Rattle.std.proofs.Common.{◌+◌, map, drop, sym, ap, ◌∙◌}
-use Rattle.lc_table.specs.PutNumbers.{columns_at}
+use Rattle.lc_put.specs.PutNumbers.{columns_at}
 use Rattle.lc_term.specs.Said.{put, puts}
 use Rattle.lc_term.specs.UpdateView.{update_of}
-use Rattle.lc_table.proofs.ByNumber.{are_columns_later, columns_still}
+use Rattle.lc_put.proofs.ByNumber.{are_columns_later, columns_still}
 use Rattle.lc_table.proofs.Later.{kept_on, term_later, term_is, is_term_later, keeps_itself}
 use Rattle.lc_rider.proofs.Assigned.{stored_more}
 use Rattle.lc_rider.proofs.edge.edge_columns.Goals as goal

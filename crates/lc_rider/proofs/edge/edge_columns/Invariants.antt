@@ -1,5 +1,5 @@
 use Rattle.std.proofs.Common.{◌≡◌, map, drop}
-use Rattle.lc_table.specs.PutNumbers.{columns_at, AreColumns}
+use Rattle.lc_put.specs.PutNumbers.{columns_at, AreColumns}
 use Rattle.lc_term.specs.Said.{puts}
 use Rattle.lc_table.specs.Tables.{Keeps}
 use Rattle.lc_term.specs.UpdateView.{update_of}

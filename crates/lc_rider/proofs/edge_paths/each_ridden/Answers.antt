@@ -1,8 +1,8 @@
 use Rattle.std.proofs.Common.{◌≡◌, [], ◌∷◌, ◌++◌, List, map, arith, sym, ap, ◌∙◌, subst, append_assoc, append-nil}
 use Rattle.lc_term.specs.Lists.{concat_map}
-use Rattle.lc_table.specs.PutNumbers.{terms_in}
+use Rattle.lc_put.specs.PutNumbers.{terms_in}
 use Rattle.lc_term.specs.Syntax.{Term}
-use Rattle.lc_table.proofs.ByNumber.{are_terms_later, terms_still}
+use Rattle.lc_put.proofs.ByNumber.{are_terms_later, terms_still}
 use Rattle.lc_table.proofs.Later.{kept_on, keeps_itself}
 use Rattle.lc_seq.specs.TextView.{specification_of}
 use Rattle.lc_action.specs.ActionView.{first_of}

@@ -1,10 +1,10 @@
 use Rattle.std.proofs.Common.{◌≡◌, List, map, ap, ◌∙◌, sym, subst}
 use Rattle.std.proofs.lemmas.Result.{on_ok_weaker}
-use Rattle.lc_table.specs.PutNumbers.{terms_in, AreTerms}
+use Rattle.lc_put.specs.PutNumbers.{terms_in, AreTerms}
 use Rattle.lc_term.specs.Replacement.{replacing, replace_term}
 use Rattle.lc_term.specs.Said.{term_at}
 use Rattle.lc_term.specs.Syntax.{Term}
-use Rattle.lc_table.proofs.ByNumber.{are_terms_later, terms_still}
+use Rattle.lc_put.proofs.ByNumber.{are_terms_later, terms_still}
 use Rattle.lc_table.proofs.Later.{kept_on, term_is, term_still, is_term_still}
 use Rattle.lc_seq.specs.Branches.{op_branches}
 use Rattle.lc_seq.specs.Sequential.{given_in}

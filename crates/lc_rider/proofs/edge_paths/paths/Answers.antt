@@ -1,9 +1,9 @@
 use Rattle.std.proofs.Common.{List, map, sym, ap, ◌∙◌, subst}
 use Rattle.std.proofs.lemmas.Result.{IfOk-weaker}
-use Rattle.lc_table.specs.PutNumbers.{terms_in, AreTerms}
+use Rattle.lc_put.specs.PutNumbers.{terms_in, AreTerms}
 use Rattle.lc_term.specs.Syntax.{Term}
 use Rattle.lc_term.specs.View.{term_of}
-use Rattle.lc_table.proofs.ByNumber.{are_terms_later, terms_still}
+use Rattle.lc_put.proofs.ByNumber.{are_terms_later, terms_still}
 use Rattle.lc_seq.specs.TextView.{specification_of}
 use Rattle.lc_action.specs.ActionView.{first_of}
 use Rattle.lc_rider.specs.Paths.{Path, paths}
@@ -13,7 +13,7 @@ use Rattle.lc_rider.proofs.edge_paths.paths.Goals as goal
 
 pub ridden-requires-clause-variables : goal.ridden-requires-clause-variables
 ridden-requires-clause-variables c =
-    let t1 = c.enter_terms.new.self in
+    let t1 = c.enter_terms.new.table in
     are_terms_later t1 c.path_start.new.terms c.deref-2.result.now (subst (AreTerms t1) (sym c.deref-2.ensures.value) c.in_ok-variables-2.ensures.are) c.in_ok-start.ensures.kept
 
 pub returns-clause-paths : goal.returns-clause-paths
@@ -21,7 +21,7 @@ returns-clause-paths c =
     let operations = (specification_of c.args.specification.now).operations in
     let first = first_of c.args.edge.system in
     let o = c.args.edge.operation.0 in
-    let t1 = c.enter_terms.new.self in
+    let t1 = c.enter_terms.new.table in
     let t2 = c.path_start.new.terms in
     let t3 = c.ridden.new.terms in
     let ks = c.deref-2.result.now in

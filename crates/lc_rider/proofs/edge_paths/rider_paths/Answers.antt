@@ -1,11 +1,11 @@
 use Rattle.std.proofs.Common.{◌≡◌, List, [], ◌∷◌, Option, Some, Bor, sym, ap, ◌∙◌, subst}
 use Rattle.std.specs.Prelude.{option_map}
-use Rattle.lc_table.specs.PutNumbers.{terms_in}
+use Rattle.lc_put.specs.PutNumbers.{terms_in}
 use Rattle.lc_term.specs.Said.{told}
 use Rattle.lc_term.specs.Syntax.{Term, Formula, Not}
 use Rattle.lc_table.specs.Tables.{HasFormula}
 use Rattle.lc_term.specs.View.{formula_of}
-use Rattle.lc_table.proofs.ByNumber.{are_terms_later, terms_still}
+use Rattle.lc_put.proofs.ByNumber.{are_terms_later, terms_still}
 use Rattle.lc_table.proofs.Later.{kept_on, formula_later, formula_is, is_formula_later}
 use Rattle.lc_seq.specs.TextView.{specification_of}
 use Rattle.lc_action.specs.ActionView.{first_of}

@@ -1,5 +1,5 @@
 use Rattle.lc_table.specs.Tables.{HasTerm}
-use Rattle.lc_table.proofs.ByNumber.{are_terms_later}
+use Rattle.lc_put.proofs.ByNumber.{are_terms_later}
 use Rattle.lc_table.proofs.Later.{kept_on}
 use Rattle.lc_term.specs.View.{term_of}
 use Rattle.lc_rider.proofs.PathLater.{is_path_later}

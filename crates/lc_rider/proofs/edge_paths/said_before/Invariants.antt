@@ -1,5 +1,5 @@
 use Rattle.std.proofs.Common.{◌≡◌, ◌++◌, map, drop}
-use Rattle.lc_table.specs.PutNumbers.{terms_in, AreTerms}
+use Rattle.lc_put.specs.PutNumbers.{terms_in, AreTerms}
 use Rattle.lc_table.specs.Tables.{Keeps}
 use Rattle.lc_term.specs.View.{term_of}
 use Rattle.lc_rider.proofs.SaidTerms.{said_in}

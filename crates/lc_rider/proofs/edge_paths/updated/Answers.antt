@@ -1,6 +1,6 @@
 use Rattle.std.proofs.Common.{◌≡◌}
 use Rattle.std.proofs.lemmas.Result.{IfOk-weaker}
-use Rattle.lc_table.specs.PutNumbers.{terms_in}
+use Rattle.lc_put.specs.PutNumbers.{terms_in}
 use Rattle.lc_term.specs.Replacement.{replacing, replace_term}
 use Rattle.lc_term.specs.Said.{put, term_at}
 use Rattle.lc_term.specs.Syntax.{Term}
@@ -8,7 +8,7 @@ use Rattle.lc_table.specs.Tables.{term_in}
 use Rattle.lc_term.specs.View.{term_of}
 use Rattle.lc_term.specs.Updates as U
 use Rattle.lc_table.proofs.Later.{kept_on, term_later, term_is, is_term_later}
-use Rattle.lc_table.proofs.ByNumber.{are_terms_later}
+use Rattle.lc_put.proofs.ByNumber.{are_terms_later}
 use Rattle.lc_rider.specs.Paths.{Path}
 use Rattle.lc_rider.specs.PathView.{path_in, with_columns}
 use Rattle.lc_rider.proofs.PathsAdded.{has_same}

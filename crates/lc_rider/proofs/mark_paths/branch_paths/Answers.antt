@@ -1,12 +1,12 @@
 use Rattle.std.proofs.Common.{◌≡◌, [], ◌∷◌, ◌+◌, ◌++◌, ◌≤◌, List, length, drop, sym, ap, ◌∙◌, subst, append-nil, arith, refl}
 use Rattle.std.proofs.lemmas.Bool.Decides.{nat_tests}
 use Rattle.std.proofs.lemmas.List.{drop_all}
-use Rattle.lc_table.specs.PutNumbers.{terms_in}
+use Rattle.lc_put.specs.PutNumbers.{terms_in}
 use Rattle.lc_term.specs.Syntax.{Formula, Not}
 use Rattle.lc_term.specs.Said.{told}
 use Rattle.lc_table.specs.Tables.{term_in, HasFormula}
 use Rattle.lc_term.specs.View.{formula_of}
-use Rattle.lc_table.proofs.ByNumber.{are_terms_later}
+use Rattle.lc_put.proofs.ByNumber.{are_terms_later}
 use Rattle.lc_table.proofs.Later.{kept_on, keeps_itself, formula_later, formula_is, is_term_still}
 use Rattle.lc_seq.specs.SpecView.{branch_of}
 use Rattle.lc_seq.specs.TextView.{specification_of}

@@ -1,5 +1,5 @@
 use Rattle.std.proofs.Common.{◌≡◌, ◌++◌, List, drop}
-use Rattle.lc_table.specs.PutNumbers.{terms_in}
+use Rattle.lc_put.specs.PutNumbers.{terms_in}
 use Rattle.lc_table.specs.Tables.{term_in, Keeps}
 use Rattle.lc_seq.specs.TextView.{specification_of}
 use Rattle.lc_action.specs.ActionView.{first_of}

@@ -1,9 +1,9 @@
 use Rattle.std.proofs.Common.{◌≡◌, List, ap, sym, ◌∙◌, subst}
 use Rattle.std.proofs.lemmas.Result.{on_ok_weaker}
-use Rattle.lc_table.specs.PutNumbers.{terms_in, AreTerms}
+use Rattle.lc_put.specs.PutNumbers.{terms_in, AreTerms}
 use Rattle.lc_term.specs.Syntax.{Term}
 use Rattle.lc_table.specs.Tables.{term_in}
-use Rattle.lc_table.proofs.ByNumber.{are_terms_later, terms_still}
+use Rattle.lc_put.proofs.ByNumber.{are_terms_later, terms_still}
 use Rattle.lc_table.proofs.Later.{kept_on, term_still, is_term_still}
 use Rattle.lc_seq.specs.Branches.{op_branches, arity}
 use Rattle.lc_seq.specs.Specification.{Branch, chosen}

@@ -1,6 +1,6 @@
 use Rattle.std.proofs.Common.{◌≡◌, List, ◌++◌, [], ◌∷◌, sym, ap, ◌∙◌, subst}
 use Rattle.std.proofs.lemmas.Result.{IfOk-weaker}
-use Rattle.lc_table.specs.PutNumbers.{terms_in, columns_at}
+use Rattle.lc_put.specs.PutNumbers.{terms_in, columns_at}
 use Rattle.lc_term.specs.Said.{after}
 use Rattle.lc_table.specs.Tables.{term_in, formula_in, HasFormula}
 use Rattle.lc_term.specs.UpdateView.{updates_of}

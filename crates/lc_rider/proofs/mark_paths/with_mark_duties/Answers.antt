@@ -4,10 +4,10 @@ use Rattle.lc_term.specs.Said.{told}
 use Rattle.lc_term.specs.Syntax.{Term, Column, Formula, Eq, Read, Number, Or, formulas}
 use Rattle.lc_term.specs.SystemColumns as Y
 use Rattle.lc_table.specs.Tables.{term_in, HasFormula}
-use Rattle.lc_table.proofs.ByNumber.{terms_still}
+use Rattle.lc_put.proofs.ByNumber.{terms_still}
 use Rattle.lc_table.proofs.Later.{kept_on, formula_later, term_still, is_term_still}
 use Rattle.lc_seq.specs.Specification.{Branch}
-use Rattle.lc_table.specs.PutNumbers.{terms_in}
+use Rattle.lc_put.specs.PutNumbers.{terms_in}
 use Rattle.lc_seq.specs.TextView.{specification_of}
 use Rattle.lc_action.specs.ActionView.{first_of}
 use Rattle.lc_rider.specs.MarkView.{marking_of, branches_at, with_duties}

@@ -1,5 +1,5 @@
 use Rattle.std.proofs.Common.{◌∙◌, ℕ, map, sym, ap, ap₂, subst}
-use Rattle.lc_table.specs.PutNumbers.{columns_at, AreColumns, terms_in}
+use Rattle.lc_put.specs.PutNumbers.{columns_at, AreColumns, terms_in}
 use Rattle.lc_term.specs.Said.{puts, said}
 use Rattle.lc_term.specs.Syntax.{Column}
 use Rattle.lc_table.specs.Tables.{term_in}

@@ -1,5 +1,5 @@
 use Rattle.std.proofs.Common.{◌≡◌, ℕ, [], ◌∷◌, OnOk, map, pos, ap, ap₂, subst}
-use Rattle.lc_table.specs.PutNumbers.{columns_at}
+use Rattle.lc_put.specs.PutNumbers.{columns_at}
 use Rattle.lc_term.specs.Said.{at_client}
 use Rattle.lc_term.specs.Syntax.{Column, Number}
 use Rattle.lc_term.specs.SystemColumns as Y

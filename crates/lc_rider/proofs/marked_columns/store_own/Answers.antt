@@ -1,13 +1,13 @@
 use Rattle.std.proofs.Common.{◌∙◌, ◌<◌, ◌≤◌, length, map, ap, get_or, arith}
 use Rattle.std.proofs.lemmas.Bool.Decides.{nat_tests}
 use Rattle.lc_base.specs.declared.ids.ColId.{ColId}
-use Rattle.lc_table.specs.PutNumbers.{columns_at, terms_in, replacement_at}
+use Rattle.lc_put.specs.PutNumbers.{columns_at, terms_in, replacement_at}
 use Rattle.lc_term.specs.Replacement.{replace_term}
 use Rattle.lc_term.specs.Said.{puts, said, at_client}
 use Rattle.lc_term.specs.Syntax.{Variable}
 use Rattle.lc_table.specs.Tables.{HasTerm}
 use Rattle.lc_term.specs.View.{term_of}
-use Rattle.lc_table.proofs.ByNumber.{are_columns_later, are_terms_later, columns_still}
+use Rattle.lc_put.proofs.ByNumber.{are_columns_later, are_terms_later, columns_still}
 use Rattle.lc_table.proofs.Later.{kept_on, keeps_itself, is_term_later, term_later}
 use Rattle.lc_rider.proofs.MarkStores.{index_said, said_stored, cells_more, no_values}
 use Rattle.lc_rider.proofs.marked_columns.store_own.Goals as goal
@@ -15,7 +15,7 @@ use Rattle.lc_rider.proofs.marked_columns.store_own.Goals as goal
 pub loop-i-init : goal.loop-i-init
 loop-i-init c =
     let old = c.args.terms.now in
-    let mid = c.put_in_term.new.self in
+    let mid = c.put_in_term.new.table in
     let kept = kept_on old c.variable.new.self mid c.variable.ensures.kept c.put_in_term.ensures.kept in
     record {
       kept = keeps_itself mid;
@@ -33,20 +33,20 @@ returns-in_default-clause-stored c =
 pub store_value-requires-clause-before : goal.store_value-requires-clause-before
 store_value-requires-clause-before c =
     are_columns_later c.args.terms.now c.loop-i.terms c.args.before.columns.now c.requires.before
-    (kept_on c.args.terms.now c.put_in_term.new.self c.loop-i.terms (kept_on c.args.terms.now c.variable.new.self c.put_in_term.new.self c.variable.ensures.kept c.put_in_term.ensures.kept) c.loop-i.invariant.kept)
+    (kept_on c.args.terms.now c.put_in_term.new.table c.loop-i.terms (kept_on c.args.terms.now c.variable.new.self c.put_in_term.new.table c.variable.ensures.kept c.put_in_term.ensures.kept) c.loop-i.invariant.kept)
 
 pub store_value-requires-clause-variables : goal.store_value-requires-clause-variables
 store_value-requires-clause-variables c =
     are_terms_later c.args.terms.now c.loop-i.terms c.args.before.variables.now c.requires.variables
-    (kept_on c.args.terms.now c.put_in_term.new.self c.loop-i.terms (kept_on c.args.terms.now c.variable.new.self c.put_in_term.new.self c.variable.ensures.kept c.put_in_term.ensures.kept) c.loop-i.invariant.kept)
+    (kept_on c.args.terms.now c.put_in_term.new.table c.loop-i.terms (kept_on c.args.terms.now c.variable.new.self c.put_in_term.new.table c.variable.ensures.kept c.put_in_term.ensures.kept) c.loop-i.invariant.kept)
 
 pub store_value-requires-clause-index : goal.store_value-requires-clause-index
-store_value-requires-clause-index c = is_term_later c.put_in_term.new.self c.loop-i.terms c.in_ok-client-2.client _ c.in_ok-client-2.ensures.id c.loop-i.invariant.kept
+store_value-requires-clause-index c = is_term_later c.put_in_term.new.table c.loop-i.terms c.in_ok-client-2.client _ c.in_ok-client-2.ensures.id c.loop-i.invariant.kept
 
 pub loop-i-preserved : goal.loop-i-preserved
 loop-i-preserved c =
     let old = c.args.terms.now in
-    let mid = c.put_in_term.new.self in
+    let mid = c.put_in_term.new.table in
     let now = c.loop-i.terms in
     let new = c.store_value.new.terms in
     let ps = c.args.before.columns.now in

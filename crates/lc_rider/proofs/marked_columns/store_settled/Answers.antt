@@ -1,5 +1,5 @@
 use Rattle.std.proofs.Common.{◌≡◌, ◌∙◌, ℕ, List, [], ◌∷◌, ◌++◌, OnOk, map, pos, refl, ap, ap₂, subst, append_assoc}
-use Rattle.lc_table.specs.PutNumbers.{columns_at, terms_in}
+use Rattle.lc_put.specs.PutNumbers.{columns_at, terms_in}
 use Rattle.lc_term.specs.Said.{puts, said, at_client}
 use Rattle.lc_term.specs.Syntax.{Column, Number}
 use Rattle.lc_term.specs.SystemColumns as Y

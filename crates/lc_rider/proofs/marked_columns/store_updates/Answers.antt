@@ -1,35 +1,35 @@
 use Rattle.std.proofs.Common.{◌∙◌}
-use Rattle.lc_table.specs.PutNumbers.{columns_at, terms_in, replacement_at}
+use Rattle.lc_put.specs.PutNumbers.{columns_at, terms_in, replacement_at}
 use Rattle.lc_term.specs.Replacement.{replace_term}
 use Rattle.lc_table.specs.Tables.{HasTerm}
 use Rattle.lc_term.specs.View.{term_of}
-use Rattle.lc_table.proofs.ByNumber.{are_columns_later, are_terms_later}
+use Rattle.lc_put.proofs.ByNumber.{are_columns_later, are_terms_later}
 use Rattle.lc_table.proofs.Later.{kept_on}
 use Rattle.lc_rider.proofs.MarkStores.{index_said, said_stored, updates_more}
 use Rattle.lc_rider.proofs.marked_columns.store_updates.Goals as goal
 
 pub store_value-requires-clause-before : goal.store_value-requires-clause-before
 store_value-requires-clause-before c =
-    are_columns_later c.args.terms.now c.put_in_term.new.self c.args.before.columns.now c.requires.before
-    (kept_on c.args.terms.now c.loop-update.terms c.put_in_term.new.self c.loop-update.invariant.kept
-    (kept_on c.loop-update.terms c.enter_term.new.self c.put_in_term.new.self c.enter_term.ensures.kept c.put_in_term.ensures.kept))
+    are_columns_later c.args.terms.now c.put_in_term.new.table c.args.before.columns.now c.requires.before
+    (kept_on c.args.terms.now c.loop-update.terms c.put_in_term.new.table c.loop-update.invariant.kept
+    (kept_on c.loop-update.terms c.enter_term.new.self c.put_in_term.new.table c.enter_term.ensures.kept c.put_in_term.ensures.kept))
 
 pub store_value-requires-clause-variables : goal.store_value-requires-clause-variables
 store_value-requires-clause-variables c =
-    are_terms_later c.args.terms.now c.put_in_term.new.self c.args.before.variables.now c.requires.variables
-    (kept_on c.args.terms.now c.loop-update.terms c.put_in_term.new.self c.loop-update.invariant.kept
-    (kept_on c.loop-update.terms c.enter_term.new.self c.put_in_term.new.self c.enter_term.ensures.kept c.put_in_term.ensures.kept))
+    are_terms_later c.args.terms.now c.put_in_term.new.table c.args.before.variables.now c.requires.variables
+    (kept_on c.args.terms.now c.loop-update.terms c.put_in_term.new.table c.loop-update.invariant.kept
+    (kept_on c.loop-update.terms c.enter_term.new.self c.put_in_term.new.table c.enter_term.ensures.kept c.put_in_term.ensures.kept))
 
 pub store_value-requires-clause-columns : goal.store_value-requires-clause-columns
 store_value-requires-clause-columns c =
-    are_columns_later c.loop-update.terms c.put_in_term.new.self c.loop-update.columns.items c.loop-update.invariant.are
-    (kept_on c.loop-update.terms c.enter_term.new.self c.put_in_term.new.self c.enter_term.ensures.kept c.put_in_term.ensures.kept)
+    are_columns_later c.loop-update.terms c.put_in_term.new.table c.loop-update.columns.items c.loop-update.invariant.are
+    (kept_on c.loop-update.terms c.enter_term.new.self c.put_in_term.new.table c.enter_term.ensures.kept c.put_in_term.ensures.kept)
 
 pub loop-update-preserved : goal.loop-update-preserved
 loop-update-preserved c =
     let old = c.args.terms.now in
     let now = c.loop-update.terms in
-    let mid = c.put_in_term.new.self in
+    let mid = c.put_in_term.new.table in
     let new = c.store_value.new.terms in
     let ps = c.args.before.columns.now in
     let ks = c.args.before.variables.now in

@@ -1,5 +1,5 @@
 use Rattle.std.proofs.Common.{◌≡◌, map, drop}
-use Rattle.lc_table.specs.PutNumbers.{columns_at, AreColumns, terms_in}
+use Rattle.lc_put.specs.PutNumbers.{columns_at, AreColumns, terms_in}
 use Rattle.lc_term.specs.Said.{puts, said}
 use Rattle.lc_table.specs.Tables.{Keeps}
 use Rattle.lc_term.specs.UpdateView.{updates_of}

@@ -1,10 +1,10 @@
 use Rattle.std.proofs.Common.{◌≡◌, [], ◌∷◌, ◌++◌, min, ap, ap₂, ◌∙◌, sym, subst, arith, pos}
 use Rattle.std.proofs.lemmas.List.{map-append}
 use Rattle.std.proofs.lemmas.Grind.{common_steps}
-use Rattle.lc_table.specs.PutNumbers.{columns_at, terms_in, AreTerms}
+use Rattle.lc_put.specs.PutNumbers.{columns_at, terms_in, AreTerms}
 use Rattle.lc_term.specs.Syntax.{Term, Number}
 use Rattle.lc_table.specs.Tables.{term_in}
-use Rattle.lc_table.proofs.ByNumber.{are_columns_later, columns_still, are_terms_later, terms_still}
+use Rattle.lc_put.proofs.ByNumber.{are_columns_later, columns_still, are_terms_later, terms_still}
 use Rattle.lc_table.proofs.Later.{is_term_still, term_still, term_is, keeps_itself, kept_on}
 use Rattle.lc_seq.specs.Branches.{arity}
 use Rattle.lc_seq.specs.TextView.{specification_of}

@@ -1,6 +1,6 @@
 use Rattle.std.proofs.Common.{◌∙◌, ℕ, ℤ, w64, ap, ap₂, subst, IfOk}
 use Rattle.std.proofs.lemmas.Int.{to_z-of_z}
-use Rattle.lc_table.specs.PutNumbers.{columns_at}
+use Rattle.lc_put.specs.PutNumbers.{columns_at}
 use Rattle.lc_term.specs.Syntax.{Term, Column, Eq, Read, Number, Formula}
 use Rattle.lc_table.specs.Tables.{term_in, HasTerm, HasFormula}
 use Rattle.lc_table.proofs.Later.{is_term_later, is_term_still, keeps_itself, term_later, term_is}
@@ -11,7 +11,7 @@ pub stored_column-requires : goal.stored_column-requires
 stored_column-requires c = c.columns.ensures.are c.args.terms.now c.requires.path
 
 pub read-requires-clause-index : goal.read-requires-clause-index
-read-requires-clause-index c = is_term_still c.args.terms.now c.stored_column.new.self c.args.index c.requires.index c.stored_column.ensures.kept
+read-requires-clause-index c = is_term_still c.args.terms.now c.stored_column.new.table c.args.index c.requires.index c.stored_column.ensures.kept
 
 pub eq-requires-clause-left : goal.eq-requires-clause-left
 eq-requires-clause-left c = is_term_later c.read.new.self c.number.new.self c.in_ok-cell.cell _ c.in_ok-cell.ensures.id c.number.ensures.kept
@@ -19,7 +19,7 @@ eq-requires-clause-left c = is_term_later c.read.new.self c.number.new.self c.in
 pub returns-clause-id : goal.returns-clause-id
 returns-clause-id c =
     let old = c.args.terms.now in
-    let mid = c.stored_column.new.self in
+    let mid = c.stored_column.new.table in
     let new = c.read.new.self in
     let last = c.number.new.self in
     let ps = c.columns.result.now in

@@ -1,7 +1,7 @@
-use Rattle.lc_table.specs.PutNumbers.{terms_in}
+use Rattle.lc_put.specs.PutNumbers.{terms_in}
 use Rattle.lc_term.specs.Said.{told}
 use Rattle.lc_table.specs.Tables.{HasFormula}
-use Rattle.lc_table.proofs.ByNumber.{are_terms_later}
+use Rattle.lc_put.proofs.ByNumber.{are_terms_later}
 use Rattle.lc_table.proofs.Later.{kept_on}
 use Rattle.lc_seq.specs.SpecView.{branch_of}
 use Rattle.lc_rider.specs.PathView.{path_in}

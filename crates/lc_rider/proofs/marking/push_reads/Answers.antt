@@ -1,6 +1,6 @@
 use Rattle.std.proofs.Common.{◌≡◌, get_or}
 use Rattle.lc_base.specs.declared.ids.ColId.{ColId}
-use Rattle.lc_table.specs.PutNumbers.{columns_at, terms_in}
+use Rattle.lc_put.specs.PutNumbers.{columns_at, terms_in}
 use Rattle.lc_term.specs.Syntax.{Read}
 use Rattle.lc_table.specs.Tables.{term_in, HasTerm}
 use Rattle.lc_table.proofs.Later.{kept_on, term_is}
@@ -11,7 +11,7 @@ pub loop-cell-preserved : goal.loop-cell-preserved
 loop-cell-preserved c =
     let old = c.args.terms.now in
     let now = c.loop-cell.terms in
-    let mid = c.stored_column.new.self in
+    let mid = c.stored_column.new.table in
     let new = c.read.new.self in
     let k = c.in_ok-cell.cell in
     let cell : ColId = get_or c.args.cells.now c.loop-cell.cell-index (record { 0 = 0 }) in

@@ -1,5 +1,5 @@
 use Rattle.std.proofs.Common.{◌≡◌, ◌++◌, map, drop}
-use Rattle.lc_table.specs.PutNumbers.{columns_at, terms_in, AreTerms}
+use Rattle.lc_put.specs.PutNumbers.{columns_at, terms_in, AreTerms}
 use Rattle.lc_term.specs.Said.{reads}
 use Rattle.lc_table.specs.Tables.{term_in, Keeps}
 use Rattle.lc_rider.proofs.marking.push_reads.Given as goal

@@ -1,6 +1,6 @@
 use Rattle.std.proofs.Common.{◌≡◌, true, ap, sym, subst, ◌∙◌}
 use Rattle.std.specs.List.{list_all}
-use Rattle.lc_hist.specs.WellFormed.{IsWellFormed}
+use Rattle.lc_history.specs.WellFormed.{IsWellFormed}
 use Rattle.lc_sound.specs.Instrumented.{history}
 use Rattle.lc_sound.specs.Order.{order}
 use Rattle.lc_run.specs.LabelView.{labels_of}

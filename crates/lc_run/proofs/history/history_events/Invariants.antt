@@ -1,5 +1,5 @@
 use Rattle.std.proofs.Common.{◌≡◌, ◌++◌, drop}
-use Rattle.lc_hist.specs.View.{events_of}
+use Rattle.lc_history.specs.View.{events_of}
 use Rattle.lc_sound.specs.Instrumented.{history}
 use Rattle.lc_run.specs.LabelView.{labels_of}
 use Rattle.lc_run.proofs.history.history_events.Given as goal

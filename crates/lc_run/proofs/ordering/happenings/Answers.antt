@@ -1,4 +1,4 @@
-use Rattle.std.proofs.Common.{◌≡◌, length, ap, ◌∙◌, arith}
+use Rattle.std.proofs.Common.{◌≡◌, length, ◌∙◌, arith}
 use Rattle.lc_run.proofs.Happened.{client-at}
 use Rattle.lc_run.proofs.ordering.happenings.Goals as goal
 

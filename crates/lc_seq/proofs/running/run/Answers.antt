@@ -1,4 +1,6 @@
 use Rattle.std.proofs.Common.{◌≡◌, ◌+◌, ◌∷◌, arith, drop, refl, ap, sym, subst, ◌∙◌}
+use Rattle.lc_lemmas.proofs.Lists.{drop_at_element}
+use Rattle.lc_lemmas.proofs.Booleans.{left_true}
 use Rattle.lc_term.specs.Meaning.{outside}
 use Rattle.lc_term.specs.State.{state_of, env_of, column_count, variable_count}
 use Rattle.lc_term.specs.Truth.{truth}
@@ -7,7 +9,7 @@ use Rattle.lc_seq.specs.Specification.{chosen}
 use Rattle.lc_seq.specs.SpecView.{branch_of, branches_of, choice_of}
 use Rattle.lc_seq.proofs.Choosing.{left_in}
 use Rattle.lc_seq.specs.TextStep.{run, RunFits, UpdatesFit, TermsFit, writes_of, values_of}
-use Rattle.lc_seq.proofs.Runs.{run-within, AreRun, drop_at_element, and_left, answer_is_truth, run_next, taken_fits, taken_gives, handed_up}
+use Rattle.lc_seq.proofs.Runs.{run-within, AreRun, answer_is_truth, run_next, taken_fits, taken_gives, handed_up}
 use Rattle.lc_seq.proofs.running.run.Goals as goal
 use Rattle.lc_seq.proofs.running.run.Goals.{In_ok-eval}
 
@@ -23,7 +25,7 @@ are c =
 
 -- whether its guard holds
 guard : (c : In_ok-eval) → truth (state_of c.args.state.now) (env_of c.args.env.now) outside (branch_of c.branch-item.result).guard ≡ c.in_ok-eval.field-0
-guard c = sym (answer_is_truth _ _ _ c.in_ok-eval.field-0 (and_left _ _ (and_left _ _ (and_left _ _ (are c).resolved))) c.in_ok-eval.ensures.meaning)
+guard c = sym (answer_is_truth _ _ _ c.in_ok-eval.field-0 (left_true _ _ (left_true _ _ (left_true _ _ (are c).resolved))) c.in_ok-eval.ensures.meaning)
 
 pub returns-in_err-outcome-clause-computed : goal.returns-in_err-outcome-clause-computed
 returns-in_err-outcome-clause-computed c =

@@ -1,11 +1,12 @@
 use Rattle.std.proofs.Common.{◌+◌, ◌∷◌, ◌++◌, [], map, drop, w64, arith, rules, ap, subst, ◌∙◌}
 use Rattle.std.specs.Prelude.{FitsSigned}
 use Rattle.std.proofs.lemmas.Int.{to_z-of_z}
+use Rattle.lc_lemmas.proofs.Lists.{drop_at_element}
 use Rattle.lc_term.specs.State.{state_of, env_of, column_count, variable_count}
 use Rattle.lc_term.specs.View.{term_of}
 use Rattle.lc_seq.specs.TextStep.{TermsFit, values_of}
 use Rattle.lc_seq.specs.declared.fault.SeqFault.TheVariants.{Overflow}
-use Rattle.lc_seq.proofs.Runs.{AreValued, drop_at_element, handed_on, valued_next}
+use Rattle.lc_seq.proofs.Runs.{AreValued, handed_on, valued_next}
 use Rattle.lc_seq.proofs.running.values_of.Goals as goal
 
 pub returns-in_err-value : goal.returns-in_err-value

@@ -1,8 +1,9 @@
 use Rattle.std.proofs.Common.{◌≡◌, ◌++◌, [], arith, drop, ap, sym, subst, ◌∙◌, append-nil}
+use Rattle.lc_lemmas.proofs.Lists.{dropped_all}
 use Rattle.lc_term.specs.State.{state_of, env_of, column_count, variable_count}
 use Rattle.lc_term.specs.Updates.{writes_of, UpdatesFit, AreWithin}
 use Rattle.lc_term.specs.UpdateView.{updates_of, writes_view}
-use Rattle.lc_seq.proofs.Runs.{dropped_all, writes-within}
+use Rattle.lc_seq.proofs.Runs.{writes-within}
 use Rattle.lc_seq.proofs.running.writes_of.Goals as goal
 
 pub returns-clause-computed : goal.returns-clause-computed

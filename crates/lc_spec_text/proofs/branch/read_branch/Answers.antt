@@ -8,8 +8,8 @@ use Rattle.lc_reading.specs.Results.{IsReading}
 use Rattle.lc_seq.specs.SpecView.{branch_of}
 use Rattle.lc_spec_text.specs.Branches.{the_branch, branch_parts_reading}
 use Rattle.lc_spec_text.specs.ScopeView.{columns_view}
-use Rattle.lc_spec_text.proofs.Parts.{misfit_told}
 use Rattle.lc_spec_text.proofs.branch.read_branch.Goals as goal
+use Rattle.lc_reading.proofs.Results.{misfit_told}
 
 pub returns-in_err-list : goal.returns-in_err-list
 returns-in_err-list g c =

@@ -9,8 +9,8 @@ use Rattle.lc_reading.specs.TableView.{listed}
 use Rattle.lc_seq.specs.SpecView.{operation_of}
 use Rattle.lc_spec_text.specs.Operations.{the_operation, operation_parts_reading}
 use Rattle.lc_spec_text.specs.ScopeView.{columns_view}
-use Rattle.lc_spec_text.proofs.Parts.{misfit_told}
 use Rattle.lc_spec_text.proofs.operation.read_form.Goals as goal
+use Rattle.lc_reading.proofs.Results.{misfit_told}
 
 pub returns-in_err-list : goal.returns-in_err-list
 returns-in_err-list c =

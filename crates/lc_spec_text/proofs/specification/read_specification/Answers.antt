@@ -9,8 +9,8 @@ use Rattle.lc_reading.specs.TableView.{listed}
 use Rattle.lc_seq.specs.TextView.{specification_of}
 use Rattle.lc_spec_text.proofs.Resolved.{parts_resolved}
 use Rattle.lc_spec_text.specs.Specifications.{the_specification, specification_parts_reading}
-use Rattle.lc_spec_text.proofs.Parts.{misfit_told}
 use Rattle.lc_spec_text.proofs.specification.read_specification.Goals as goal
+use Rattle.lc_reading.proofs.Results.{misfit_told}
 
 pub returns-in_err-list : goal.returns-in_err-list
 returns-in_err-list c =

@@ -1,8 +1,8 @@
-use Rattle.std.proofs.Common.{◌≡◌, ap, sym, ◌∙◌, Some, true}
-use Rattle.lc_term.proofs.Tests.{at_all}
+use Rattle.std.proofs.Common.{ap, sym, ◌∙◌, Some}
+use Rattle.lc_lemmas.proofs.Lists.{at_all}
 use Rattle.lc_machine.specs.Placed.{is_placed}
 use Rattle.lc_machine.specs.View.{client_of, clients_of, variables_of}
-use Rattle.lc_machine.specs.World.{Idle, In}
+use Rattle.lc_machine.specs.World.{In}
 use Rattle.lc_outline.specs.DevelopmentView.{development_view}
 use Rattle.lc_steps.specs.StepView.{world_in}
 use Rattle.lc_steps.proofs.advancing.advance.Goals as goal

@@ -1,4 +1,4 @@
-use Rattle.std.proofs.Common.{◌≡◌, true, Ok, Err, sym, subst, rules}
+use Rattle.std.proofs.Common.{◌≡◌, sym, subst, rules}
 use Rattle.lc_term.specs.Drafts.{written_in_draft, draft_columns}
 use Rattle.lc_term.specs.UpdateView.{writes_view}
 use Rattle.lc_term.specs.Updates.{stored_all, AreWithin}

@@ -1,12 +1,12 @@
 use Rattle.std.proofs.Common.{◌≡◌, ◌<◌, Some, length, ap, sym, subst, ◌∙◌, rules}
 use Rattle.std.proofs.lemmas.List.{length-map}
+use Rattle.lc_lemmas.proofs.Lists.{viewed_at}
 use Rattle.lc_object.specs.Syntax.{Object}
 use Rattle.lc_object.specs.View.{operation_of, parts_of}
 use Rattle.lc_object.specs.WellFormed.{variable_count}
 use Rattle.lc_machine.specs.MayRun.{variables_at}
 use Rattle.lc_machine.proofs.Promised.{entry_variables}
 use Rattle.lc_outline.specs.DevelopmentView.{development_view}
-use Rattle.lc_steps.proofs.Elements.{viewed_at}
 use Rattle.lc_steps.proofs.lookup.body_of.Goals as goal
 
 pub returns-then-operation-len-clause-entry : goal.returns-then-operation-len-clause-entry

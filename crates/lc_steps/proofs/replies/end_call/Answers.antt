@@ -1,4 +1,4 @@
-use Rattle.std.proofs.Common.{◌≡◌, true, false, Ok, Err, sym, subst, ◌∙◌, rules}
+use Rattle.std.proofs.Common.{◌≡◌, true, false, sym, subst, ◌∙◌, rules}
 use Rattle.lc_term.specs.Drafts.{written_in_draft}
 use Rattle.lc_term.specs.Updates.{stored_all}
 use Rattle.lc_action.specs.ActionView.{first_of}

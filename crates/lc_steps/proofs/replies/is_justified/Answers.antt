@@ -1,9 +1,8 @@
 use mir.Val.{to_z, of_z}
-use Rattle.std.proofs.Common.{◌≡◌, pos, w64, ap, sym, subst, ◌∙◌}
+use Rattle.std.proofs.Common.{pos, w64, ap, sym, subst, ◌∙◌}
 use Rattle.std.specs.Prelude.{FitsSigned}
 use Rattle.std.proofs.lemmas.Int.{to_z-of_z}
 use Rattle.lc_term.specs.State.{state_of}
-use Rattle.lc_term.specs.SystemColumns.{pend}
 use Rattle.lc_action.specs.ActionView.{first_of}
 use Rattle.lc_steps.proofs.Replying.{reply-unread, marked-as, open-as, no-call}
 use Rattle.lc_steps.proofs.replies.is_justified.Goals as goal

@@ -1,4 +1,4 @@
-use Rattle.std.proofs.Common.{◌≡◌, length}
+use Rattle.std.proofs.Common.{length}
 use Rattle.lc_term.specs.State.{state_of, column_count}
 use Rattle.lc_term.specs.SystemColumns.{rep_columns}
 use Rattle.lc_action.specs.ActionView.{first_of}

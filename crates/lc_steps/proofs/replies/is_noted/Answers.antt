@@ -1,9 +1,9 @@
 use mir.Val.{to_z, of_z}
-use Rattle.std.proofs.Common.{◌≡◌, pos, w64, ap, sym, subst, ◌∙◌, length}
+use Rattle.std.proofs.Common.{pos, w64, ap, sym, subst, ◌∙◌, length}
 use Rattle.std.specs.Prelude.{FitsSigned}
 use Rattle.std.proofs.lemmas.Int.{to_z-of_z}
 use Rattle.lc_term.specs.State.{state_of, column_count}
-use Rattle.lc_term.specs.SystemColumns.{noted, note_columns}
+use Rattle.lc_term.specs.SystemColumns.{note_columns}
 use Rattle.lc_action.specs.ActionView.{first_of}
 use Rattle.lc_steps.proofs.Replying.{none-noted, note-unread, noted-as, notes-there, stand_in_row}
 use Rattle.lc_steps.proofs.replies.is_noted.Goals as goal

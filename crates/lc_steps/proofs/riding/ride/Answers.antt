@@ -1,4 +1,4 @@
-use Rattle.std.proofs.Common.{◌≡◌, ◌≤◌, true, false, Ok, Err, [], refl, ap, sym, subst, ◌∙◌, rules}
+use Rattle.std.proofs.Common.{◌≡◌, ◌≤◌, true, false, Ok, Err, [], refl, ap, sym, subst, ◌∙◌}
 use Rattle.std.specs.List.{list_all}
 use Rattle.lc_base.specs.Limits.{argument_limit}
 use Rattle.lc_term.specs.Drafts.{written_in_draft, draft_columns}
@@ -7,7 +7,7 @@ use Rattle.lc_seq.specs.Branches.{arity}
 use Rattle.lc_seq.specs.SpecView.{operations_of}
 use Rattle.lc_action.specs.ActionView.{first_of}
 use Rattle.lc_rider.specs.RiderView.{riders_of}
-use Rattle.lc_outline.specs.Development.{first_system, riders_at}
+use Rattle.lc_outline.specs.Development.{riders_at}
 use Rattle.lc_outline.specs.DevelopmentView.{development_view}
 use Rattle.lc_outline.specs.Resolved.{is_resolved}
 use Rattle.lc_ride.specs.RideView.{AreThere, rider_is_evaluable}

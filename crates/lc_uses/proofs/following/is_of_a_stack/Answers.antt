@@ -1,12 +1,12 @@
 use Rattle.std.specs.Prelude.{[], List, IsTrue}
-use Rattle.lc_hist.specs.History.{Event, IsLinearizable}
-use Rattle.lc_hist.specs.Shadowed.{with_choices}
+use Rattle.lc_lemmas.proofs.Options.{if_ok}
+use Rattle.lc_history.specs.History.{Event, IsLinearizable}
+use Rattle.lc_history.specs.Shadowed.{with_choices}
 use Rattle.lc_native.specs.Stack.{stack_step}
 use Rattle.lc_native.specs.declared.stack.NatStack.{NatStack}
 use Rattle.lc_seq.specs.Sequential.{InOrder}
 use Rattle.lc_seq.specs.TextStep.{start_of, text_step}
 use Rattle.lc_seq.specs.TextView.{specification_of}
-use Rattle.lc_uses.proofs.Results.{if_ok}
 use Rattle.lc_uses.proofs.following.is_of_a_stack.Goals as goal
 
 pub returns : goal.returns

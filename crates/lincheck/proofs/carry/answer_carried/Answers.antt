@@ -16,6 +16,6 @@ returns g c =
     let E = development_view c.args.development.now in
     let old = c.args.old.now in
     let given = carried (development_in old.accepted) (entries_in old.certificate) E ++ proofs_in c.args.hints.now in
-    IfOk-weaker c.told_found.result (λ (answer : Answer). ToldFound E c.carry_with-found.result answer.text.items answer.status) (λ (answer : Answer). AnswersSought E given answer.text.items answer.status)
+    IfOk-weaker c.told_found-answered.result (λ (answer : Answer). ToldFound E c.carry_with-found.result answer.text.items answer.status) (λ (answer : Answer). AnswersSought E given answer.text.items answer.status)
     (λ answer told. sought_answered E given c.carry_with-found.result answer.text.items answer.status c.carry_with-found.ensures.finds.accepted c.carry_with-found.ensures.finds.range c.carry_with-found.ensures.finds.first told)
-    c.told_found.ensures
+    c.told_found-answered.ensures

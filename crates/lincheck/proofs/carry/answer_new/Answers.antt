@@ -18,8 +18,8 @@ returns-in-Ok-clause-answers g c =
     let path = path_in c.args.hints in
     let says = subst (λ (o : Result Development Answer). OfFile known (λ file. OpensAs file o)) c.in-Ok.is c.in_ok-development.ensures.opens in
     new_answered (development_in old.accepted) (entries_in old.certificate) known (hints_at (g.F.Files.bytes_at c.args.files.now) path) (hints_at (g.F.Files.bytes_at c.open_development.new.files) path)
-    (development_view c.in-Ok.development) c.answer_development.result says
-    (same_hints (g.F.Files.bytes_at c.args.files.now) (g.F.Files.bytes_at c.open_development.new.files) path c.in_ok-development.ensures.keeps) c.answer_development.ensures.answers
+    (development_view c.in-Ok.development) c.answer_development-answered.result says
+    (same_hints (g.F.Files.bytes_at c.args.files.now) (g.F.Files.bytes_at c.open_development.new.files) path c.in_ok-development.ensures.keeps) c.answer_development-answered.ensures.answers
 
 pub returns-in-Err-clause-answers : goal.returns-in-Err-clause-answers
 returns-in-Err-clause-answers g c =
@@ -30,8 +30,8 @@ returns-in-Err-clause-answers g c =
 
 pub returns-in-Ok-clause-unread : goal.returns-in-Ok-clause-unread
 returns-in-Ok-clause-unread g c =
-    unread_hints (g.F.Files.CannotOpen c.args.files.now) (g.F.Files.CannotOpen c.open_development.new.files) (g.F.Files.bytes_at c.args.files.now) c.args.new.now (path_in c.args.hints) c.answer_development.result
-    (λ closed. let no : false ≡ true = c.in_ok-development.ensures.unread closed in cc) c.in_ok-development.ensures.closed c.answer_development.ensures.unread
+    unread_hints (g.F.Files.CannotOpen c.args.files.now) (g.F.Files.CannotOpen c.open_development.new.files) (g.F.Files.bytes_at c.args.files.now) c.args.new.now (path_in c.args.hints) c.answer_development-answered.result
+    (λ closed. let no : false ≡ true = c.in_ok-development.ensures.unread closed in cc) c.in_ok-development.ensures.closed c.answer_development-answered.ensures.unread
 
 pub returns-in-Err-clause-unread : goal.returns-in-Err-clause-unread
 returns-in-Err-clause-unread g c = λ unread.

@@ -1,7 +1,7 @@
 use Rattle.std.proofs.Common.{Option, Vec, ℕ, subst}
 use Rattle.std.specs.declared.alloc.Global.{Global}
 use Rattle.lc_outline.specs.DevelopmentView.{development_view}
-use Rattle.lc_listing.specs.Shown.{IsLaid, line_at}
+use Rattle.lc_cond_text.specs.Shown.{IsLaid, line_at}
 use Rattle.lincheck.proofs.OneCondition.{laid_told, unlaid_answered}
 use Rattle.lincheck.proofs.condition.tell_condition.Goals as goal
 

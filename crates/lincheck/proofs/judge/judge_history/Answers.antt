@@ -1,4 +1,4 @@
-use Rattle.lc_hist.specs.Histories.{events_in}
+use Rattle.lc_history.specs.Histories.{events_in}
 use Rattle.lc_seq.specs.TextView.{specification_of}
 use Rattle.lincheck.proofs.Judgements.{order_judged}
 use Rattle.lincheck.proofs.judge.judge_history.Goals as goal

@@ -10,6 +10,6 @@ pub returns : goal.returns
 returns g c =
     let D = development_view c.args.development.now in
     let hs = proofs_in c.args.hints.now in
-    IfOk-weaker c.told_found.result (λ (answer : Answer). ToldFound D c.find_with-found.result answer.text.items answer.status) (λ (answer : Answer). AnswersFound D hs answer.text.items answer.status)
+    IfOk-weaker c.told_found-answered.result (λ (answer : Answer). ToldFound D c.find_with-found.result answer.text.items answer.status) (λ (answer : Answer). AnswersFound D hs answer.text.items answer.status)
     (λ answer told. found_answered D hs c.find_with-found.result answer.text.items answer.status c.find_with-found.ensures.accepted c.find_with-found.ensures.range c.find_with-found.ensures.by c.find_with-found.ensures.first c.requires told)
-    c.told_found.ensures
+    c.told_found-answered.ensures

@@ -13,7 +13,7 @@ returns-in-Ok-clause-answers g c =
     let known = g.F.Files.bytes_at c.args.files.now c.args.development.now in
     let says = subst (λ (o : Result Development Answer). OfFile known (λ file. OpensAs file o)) c.in-Ok.is c.in_ok-development.ensures.opens in
     hinted_answered known (g.F.Files.bytes_at c.args.files.now c.args.hints.now) (g.F.Files.bytes_at c.open_development.new.files c.args.hints.now)
-    (development_view c.in-Ok.development) c.answer_hints.result says (c.in_ok-development.ensures.keeps c.args.hints.now) c.answer_hints.ensures.answers
+    (development_view c.in-Ok.development) c.answer_hints-answered.result says (c.in_ok-development.ensures.keeps c.args.hints.now) c.answer_hints-answered.ensures.answers
 
 pub returns-in-Err-clause-answers : goal.returns-in-Err-clause-answers
 returns-in-Err-clause-answers g c =

@@ -10,15 +10,15 @@ use Rattle.lincheck.specs.declared.answer.Answer.{Answer}
 use Rattle.lincheck.proofs.Proving.{proved_alone, prove_refused}
 use Rattle.lincheck.proofs.prove.answer_unhinted.Goals as goal
 
-pub answer_found-requires : goal.answer_found-requires
-answer_found-requires g c = subst (Every (EntryReadsBack (development_view c.in-Ok.development))) (sym c.new-hints.ensures.proofs) tt
+pub answer_found-answered-requires : goal.answer_found-answered-requires
+answer_found-answered-requires g c = subst (Every (EntryReadsBack (development_view c.in-Ok.development))) (sym c.new-hints.ensures.proofs) tt
 
-pub returns-in_ok-answer_found-in-Ok-clause-answers : goal.returns-in_ok-answer_found-in-Ok-clause-answers
-returns-in_ok-answer_found-in-Ok-clause-answers g c =
+pub returns-in_ok-answered-in-Ok-clause-answers : goal.returns-in_ok-answered-in-Ok-clause-answers
+returns-in_ok-answered-in-Ok-clause-answers g c =
     let known = g.F.Files.bytes_at c.args.files.now c.args.path.now in
     let says = subst (λ (o : Result Development Answer). OfFile known (λ file. OpensAs file o)) c.in-Ok.is c.in_ok-development.ensures.opens in
-    let answer = c.in_ok-answer_found-in-Ok.field-0 in
-    proved_alone known (development_view c.in-Ok.development) (proofs_in c.new-hints.result) answer.text.items answer.status says c.new-hints.ensures.proofs c.in_ok-answer_found-in-Ok.ensures
+    let answer = c.in_ok-answered-in-Ok.field-0 in
+    proved_alone known (development_view c.in-Ok.development) (proofs_in c.new-hints.result) answer.text.items answer.status says c.new-hints.ensures.proofs c.in_ok-answered-in-Ok.ensures
 
 pub returns-in-Err-clause-answers : goal.returns-in-Err-clause-answers
 returns-in-Err-clause-answers g c =

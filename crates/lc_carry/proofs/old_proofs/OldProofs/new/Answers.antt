@@ -3,7 +3,7 @@ use Rattle.lc_carry.specs.Carried.{least_number, renamed_at}
 use Rattle.lc_cert.specs.CertificateView.{entries_in}
 use Rattle.lc_cond.specs.Conditions.{conditions}
 use Rattle.lc_outline.specs.DevelopmentView.{development_view}
-use Rattle.lc_rename.specs.Renaming.{column_for}
+use Rattle.lc_carry.specs.Renaming.{column_for}
 use Rattle.lc_carry.proofs.old_proofs.OldProofs.new.Goals as goal
 
 pub returns : goal.returns

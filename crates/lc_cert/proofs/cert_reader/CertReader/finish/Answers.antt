@@ -2,7 +2,7 @@ use Rattle.std.proofs.Common.{◌++◌, Ok, Err, sym, ap, ◌∙◌, subst}
 use Rattle.lc_sexp.specs.Trees.{item_count_of_all}
 use Rattle.lc_outline.specs.DevelopmentView.{development_view}
 use Rattle.lc_cert.proofs.Pieces.{text_answer, trees_answer}
-use Rattle.lc_naming.specs.ColumnNames.{column_names}
+use Rattle.lc_outline.specs.ColumnNames.{column_names}
 use Rattle.lc_cert.specs.Pieces.{waiting, IsAnswerOf}
 use Rattle.lc_cert.proofs.cert_reader.CertReader.finish.Goals as goal
 

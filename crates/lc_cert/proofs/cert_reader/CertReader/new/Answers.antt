@@ -1,7 +1,7 @@
 use Rattle.std.proofs.Common.{[]}
 use Rattle.lc_outline.specs.DevelopmentView.{development_view}
 use Rattle.lc_cert.proofs.Pieces.{nothing_ended}
-use Rattle.lc_naming.specs.ColumnNames.{column_names}
+use Rattle.lc_outline.specs.ColumnNames.{column_names}
 use Rattle.lc_cert.proofs.cert_reader.CertReader.new.Goals as goal
 
 pub returns-clause-start : goal.returns-clause-start

@@ -7,7 +7,7 @@ use Rattle.lc_reading.specs.Words.{names_in}
 use Rattle.lc_outline.specs.Development.{Development}
 use Rattle.lc_outline.specs.DevelopmentView.{development_view}
 use Rattle.lc_cert.proofs.Pieces.{form_named, under_way_named}
-use Rattle.lc_naming.specs.ColumnNames.{column_names}
+use Rattle.lc_outline.specs.ColumnNames.{column_names}
 use Rattle.lc_cert.proofs.cert_reader.CertReader.read_ready.Goals as goal
 
 pub returns : goal.returns

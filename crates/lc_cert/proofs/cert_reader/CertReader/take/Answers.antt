@@ -1,6 +1,6 @@
 use Rattle.std.proofs.Common.{[], ◌∷◌, ◌++◌}
 use Rattle.lc_cert.proofs.Pieces.{if_some, if_none, under_way_with}
-use Rattle.lc_naming.specs.ColumnNames.{column_names}
+use Rattle.lc_outline.specs.ColumnNames.{column_names}
 use Rattle.lc_cert.specs.EntryView.{entry_of}
 use Rattle.lc_cert.proofs.cert_reader.CertReader.take.Goals as goal
 

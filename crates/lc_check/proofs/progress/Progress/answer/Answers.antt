@@ -8,12 +8,26 @@ use Rattle.lc_check.specs.Walking.{IsAdvanced}
 use Rattle.lc_check.proofs.progress.Progress.answer.Goals as goal
 
 pub returns-in-Some : goal.returns-in-Some
-returns-in-Some c = λ taken h rises.
+returns-in-Some g c = λ taken h rises.
     let d = development_view c.args.development.now in
     certain_last d taken c.in-Some.refusal (told_so d taken c.args.self.now c.in-Some.refusal c.in-Some.is h) rises
 
+pub report_missing-requires-clause-known : goal.report_missing-requires-clause-known
+report_missing-requires-clause-known g c =
+    let d = development_view c.args.development.now in
+    let old = c.args.self.now in
+    let new = c.advance.new.self in
+    let here : IsAdvanced d old.walk new true = subst (IsAdvanced d old.walk new) c.if-branch.true c.in_ok-advance.ensures in
+    here.0.known (untold_in_turn d c.requires.0 old (none_if old.told c.in_default.not-Some) c.requires.1).known
+
+pub report_missing-requires-clause-stands : goal.report_missing-requires-clause-stands
+report_missing-requires-clause-stands g c =
+    let here : IsAdvanced (development_view c.args.development.now) c.args.self.now.walk c.advance.new.self true =
+    subst (IsAdvanced (development_view c.args.development.now) c.args.self.now.walk c.advance.new.self) c.if-branch.true c.in_ok-advance.ensures in
+    here.1
+
 pub returns-then-branch : goal.returns-then-branch
-returns-then-branch c = λ taken h rises.
+returns-then-branch g c = λ taken h rises.
     let d = development_view c.args.development.now in
     let old = c.args.self.now in
     let new = c.advance.new.self in
@@ -21,7 +35,7 @@ returns-then-branch c = λ taken h rises.
     missing_at_last d taken new here.1 (went_on d taken old.walk new (untold_in_turn d taken old (none_if old.told c.in_default.not-Some) h) here.0)
 
 pub returns : goal.returns
-returns c = λ taken h rises.
+returns g c = λ taken h rises.
     let d = development_view c.args.development.now in
     let old = c.args.self.now in
     let new = c.advance.new.self in

@@ -19,6 +19,20 @@ returns-then-not-branch g c = λ taken h.
     let here : IsAdvanced d old.walk c.advance.new.self false = subst (IsAdvanced d old.walk c.advance.new.self) c.if-not-branch.true c.in_ok-advance.ensures in
     extra_certain d taken old.walk (entry_of c.args.entry.now) (untold_in_turn d taken old (none_of old.told c.if-is_some.ensures) h) here.0
 
+pub report_missing-requires-clause-known : goal.report_missing-requires-clause-known
+report_missing-requires-clause-known g c =
+    let d = development_view c.args.development.now in
+    let old = c.args.self.now in
+    let new = c.advance.new.self in
+    let here : IsAdvanced d old.walk new true = subst (IsAdvanced d old.walk new) c.if-not-branch.false c.in_ok-advance.ensures in
+    here.0.known (untold_in_turn d c.requires.known.0 old (none_of old.told c.if-is_some.ensures) c.requires.known.1).known
+
+pub report_missing-requires-clause-stands : goal.report_missing-requires-clause-stands
+report_missing-requires-clause-stands g c =
+    let here : IsAdvanced (development_view c.args.development.now) c.args.self.now.walk c.advance.new.self true =
+    subst (IsAdvanced (development_view c.args.development.now) c.args.self.now.walk c.advance.new.self) c.if-not-branch.false c.in_ok-advance.ensures in
+    here.1
+
 pub returns-then-entry-self : goal.returns-then-entry-self
 returns-then-entry-self g c = λ taken h.
     let d = development_view c.args.development.now in

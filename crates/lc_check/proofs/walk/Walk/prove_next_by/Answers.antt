@@ -3,9 +3,10 @@ use Rattle.lc_kernel.specs.View.{proof_of}
 use Rattle.lc_outline.specs.DevelopmentView.{development_view}
 use Rattle.lc_cert.specs.Certificates.{Entry}
 use Rattle.lc_cond.specs.ConditionView.{condition_in, AreConditions}
-use Rattle.lc_check.proofs.Walking.{first_left, due_behind, next_due, next_bounded, still_known, still_due, one_proved, still_at_due, refused_on}
+use Rattle.lc_check.proofs.Walking.{first_left, due_behind, next_due, next_bounded, still_due, one_proved, still_at_due, refused_on}
 use Rattle.lc_check.specs.declared.walk.Walk.{Walk}
 use Rattle.lc_check.proofs.walk.Walk.prove_next_by.Goals as goal
+use Rattle.lc_cond.proofs.Adding.{are_later}
 
 pub prove-requires-clause-bounded : goal.prove-requires-clause-bounded
 prove-requires-clause-bounded g c =
@@ -32,7 +33,7 @@ returns-in_ok-self-in-Ok g c =
     let due = next_due d old x rest left ∙ ap (λ l. seen ∷ l) (still_due d old new rest refl refl known.1 kept) in
     let fewer = ap length due in
     record {
-      taken = λ es h. one_proved d es old new seen e h due refl c.in_ok-self-in-Ok.ensures c.in-Ok.ensures.exactly (still_known old.terms new.terms rest known.1 kept);
+      taken = λ es h. one_proved d es old new seen e h due refl c.in_ok-self-in-Ok.ensures c.in-Ok.ensures.exactly (are_later old.terms new.terms rest known.1 kept);
       fewer = sym fewer;
     }
 

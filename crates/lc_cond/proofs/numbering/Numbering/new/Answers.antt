@@ -1,12 +1,13 @@
 use Rattle.std.proofs.Common.{◌≡◌, ◌+◌, suc, [], ◌∷◌, Some, None, map, option_map, slice_get, length, sym, ap, ◌∙◌, subst, arith}
 use Rattle.std.proofs.lemmas.List.{length-append}
+use Rattle.std.proofs.lemmas.Option.{slice_get_within}
 use Rattle.lc_object.specs.EdgeView.{edge_of}
 use Rattle.lc_outline.specs.DevelopmentView.{development_view}
 use Rattle.lc_cond.specs.Conditions.{parts}
 use Rattle.lc_cond.specs.Numbering.{count_before, AreFirsts}
 use Rattle.lc_cond.specs.PartView.{part_of, parts_along}
 use Rattle.lc_cond.proofs.Few.{conditions_few}
-use Rattle.lc_cond.proofs.Numbered.{stands_within, stands_not, firsts_pushed, one_counted, before_few}
+use Rattle.lc_cond.proofs.Numbered.{stands_not, firsts_pushed, one_counted, before_few}
 use Rattle.lc_cond.proofs.Streamed.{no_part_read}
 use Rattle.lc_cond.proofs.numbering.Numbering.new.Goals as goal
 
@@ -39,7 +40,7 @@ parts-smaller c =
     let p = part_of c.in-Some.part in
     let read = c.part_at-part.ensures ∙ ap (λ l. slice_get (parts_along D (map edge_of l)) place) c.deref.ensures.value in
     let at : slice_get (parts D) place ≡ Some p = subst (λ l. slice_get (parts_along D l) place ≡ Some p) c.in_ok-edges.ensures (sym read ∙ ap (option_map part_of) c.in-Some.is) in
-    let lt = stands_within (parts D) place p at in
+    let lt = slice_get_within (parts D) place p at in
     let len = c.len.ensures in
     let size = ap length c.in_ok-push.ensures.items ∙ length-append ns (c.parts.number ∷ []) in
     omega (arith, size, len, lt)
@@ -69,7 +70,7 @@ parts-preserved c =
     let p = part_of c.in-Some.part in
     let read = c.part_at-part.ensures ∙ ap (λ l. slice_get (parts_along D (map edge_of l)) place) c.deref.ensures.value in
     let at : slice_get (parts D) place ≡ Some p = subst (λ l. slice_get (parts_along D l) place ≡ Some p) c.in_ok-edges.ensures (sym read ∙ ap (option_map part_of) c.in-Some.is) in
-    let lt = stands_within (parts D) place p at in
+    let lt = slice_get_within (parts D) place p at in
     let len = c.len.ensures in
     let here : length ns ≡ 0 + length ns = omega arith in
     let size = ap length c.in_ok-push.ensures.items ∙ length-append ns (n ∷ []) in

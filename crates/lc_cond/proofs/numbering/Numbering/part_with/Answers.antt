@@ -1,11 +1,12 @@
 use Rattle.std.proofs.Common.{◌≡◌, ◌+◌, ◌<◌, Some, None, map, option_map, slice_get, length, refl, sym, ap, ◌∙◌, subst, arith}
+use Rattle.std.proofs.lemmas.Option.{slice_get_within}
 use Rattle.lc_object.specs.EdgeView.{edge_of}
 use Rattle.lc_outline.specs.DevelopmentView.{development_view}
 use Rattle.lc_cond.specs.Conditions.{parts, conditions_in}
 use Rattle.lc_cond.specs.Numbering.{AddsWith}
 use Rattle.lc_cond.specs.PartView.{part_of, parts_along}
 use Rattle.lc_cond.proofs.Few.{part_limited, conditions_few}
-use Rattle.lc_cond.proofs.Numbered.{stands_within, first_at, before_few, part_stands, none_stands}
+use Rattle.lc_cond.proofs.Numbered.{first_at, before_few, part_stands, none_stands}
 use Rattle.lc_cond.proofs.Streamed.{no_part_read}
 use Rattle.lc_cond.proofs.numbering.Numbering.part_with.Goals as goal
 
@@ -36,7 +37,7 @@ index-before-requires c =
     let read = c.part_at.ensures ∙ ap (λ l. slice_get (parts_along D (map edge_of l)) place) c.deref.ensures.value in
     let at : slice_get (parts D) place ≡ Some p =
     subst (λ es. slice_get (parts_along D es) place ≡ Some p) c.requires.edges_are (sym read ∙ ap (option_map part_of) c.in-Some.is) in
-    let h = stands_within (parts D) place p at in
+    let h = slice_get_within (parts D) place p at in
     let e = c.requires.each in
     omega (arith, h, e)
 
@@ -49,7 +50,7 @@ overflow_add-result c =
     let read = c.part_at.ensures ∙ ap (λ l. slice_get (parts_along D (map edge_of l)) place) c.deref.ensures.value in
     let at : slice_get (parts D) place ≡ Some p =
     subst (λ es. slice_get (parts_along D es) place ≡ Some p) c.requires.edges_are (sym read ∙ ap (option_map part_of) c.in-Some.is) in
-    let h = stands_within (parts D) place p at in
+    let h = slice_get_within (parts D) place p at in
     let e = c.requires.each in
     let lt : place < length n.firsts.items = omega (arith, h, e) in
     let here = first_at D n.firsts.items place c.index-before.result.now c.requires.firsts_are lt c.index-before.ensures in
@@ -69,7 +70,7 @@ returns-clause-part c =
     let read = c.part_at.ensures ∙ ap (λ l. slice_get (parts_along D (map edge_of l)) place) c.deref.ensures.value in
     let at : slice_get (parts D) place ≡ Some p =
     subst (λ es. slice_get (parts_along D es) place ≡ Some p) c.requires.edges_are (sym read ∙ ap (option_map part_of) c.in-Some.is) in
-    let h = stands_within (parts D) place p at in
+    let h = slice_get_within (parts D) place p at in
     let e = c.requires.each in
     let lt : place < length n.firsts.items = omega (arith, h, e) in
     let before = c.index-before.result.now in

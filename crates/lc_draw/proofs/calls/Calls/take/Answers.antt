@@ -1,7 +1,7 @@
-use Rattle.std.proofs.Common.{◌≡◌, ◌+◌, ◌<◌, ◌^◌, ◌++◌, ◌∷◌, [], List, ap, sym, subst, vec_len}
+use Rattle.std.proofs.Common.{◌++◌, ◌∷◌, [], ap, sym, subst, vec_len}
 use Rattle.std.specs.Prelude.{Result, Ok, Err, OnOk}
-use Rattle.lc_hist.specs.History as H
-use Rattle.lc_hist.specs.View.{event_of}
+use Rattle.lc_history.specs.History as H
+use Rattle.lc_history.specs.View.{event_of}
 use Rattle.lc_draw.specs.Counting.{IsUpTo}
 use Rattle.lc_draw.proofs.Turning.{replied-up}
 use Rattle.lc_draw.proofs.calls.Calls.take.Goals as goal

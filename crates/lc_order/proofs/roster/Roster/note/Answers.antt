@@ -1,7 +1,7 @@
 use Rattle.std.proofs.Common.{◌≡◌, ◌++◌, ℕ, ◌∷◌, [], ◌==◌, ◌&&◌, not, Bool, true, false, List, Some, cond, slice_get, refl, ap, ◌∙◌}
 use Rattle.std.proofs.lemmas.Option.{slice_get_within}
 use Rattle.std.specs.Vec.{with_item}
-use Rattle.lc_hist.proofs.Tables.{element_at}
+use Rattle.lc_history.proofs.Tables.{element_at}
 use Rattle.lc_order.specs.Rosters.{calls_in, returns_in, calls_of, returns_of}
 use Rattle.lc_order.specs.declared.roster.Line.{Line}
 use Rattle.lc_order.specs.declared.roster.Roster.{Roster}

@@ -1,6 +1,6 @@
 use Rattle.std.proofs.Common.{ap, ◌∙◌}
 use Rattle.lc_cert.specs.ColumnNames.{names_with}
-use Rattle.lc_naming.specs.ColumnNames.{column_names}
+use Rattle.lc_outline.specs.ColumnNames.{column_names}
 use Rattle.lc_pool.specs.Desks.{development_in}
 use Rattle.lc_pool.proofs.desk.Desk.new.Goals as goal
 

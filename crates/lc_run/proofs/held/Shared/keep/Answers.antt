@@ -7,8 +7,9 @@ use Rattle.lc_sound.specs.Instrumented.{Instrumented}
 use Rattle.lc_check.specs.VerdictView.{development_in}
 use Rattle.lc_steps.specs.StepView.{what_of, world_in}
 use Rattle.lc_run.specs.declared.label.Label.{Label}
-use Rattle.lc_run.proofs.Standing.{step_keeps_run, label-is, labels-grow, next-world, placed-set}
+use Rattle.lc_run.proofs.Standing.{step_keeps_run, label-is, labels-grow, next-world}
 use Rattle.lc_run.proofs.held.Shared.keep.Goals as goal
+use Rattle.lc_machine.proofs.Worlds.{placed_set}
 
 pub invariant_of-self-2-clause-run : goal.invariant_of-self-2-clause-run
 invariant_of-self-2-clause-run g c =
@@ -24,7 +25,7 @@ pub invariant_of-self-2-clause-placed : goal.invariant_of-self-2-clause-placed
 invariant_of-self-2-clause-placed g c =
     let s = c.args.self.now in
     let object = (development_in s.accepted.value).object in
-    placed-set object s.stands.items c.args.seat.now.client c.into_parts-what.result.2 s.placed (ap (λ k. is_placed object (client_of k)) c.into_parts-what.ensures.client ∙ c.requires.placed)
+    placed_set object s.stands.items c.args.seat.now.client c.into_parts-what.result.2 s.placed (ap (λ k. is_placed object (client_of k)) c.into_parts-what.ensures.client ∙ c.requires.placed)
 
 pub invariant_of-self-2-clause-count : goal.invariant_of-self-2-clause-count
 invariant_of-self-2-clause-count g c = length-set c.args.self.now.stands.items c.args.seat.now.client c.into_parts-what.result.2 ∙ c.args.self.now.count

@@ -4,8 +4,9 @@ use Rattle.lc_outline.specs.Development.{start_columns}
 use Rattle.lc_sound.specs.Instrumented.{start_world}
 use Rattle.lc_check.specs.VerdictView.{development_in}
 use Rattle.lc_steps.specs.StepView.{world_in}
-use Rattle.lc_run.proofs.Standing.{start_is_run, idle-count, idle-placed}
+use Rattle.lc_run.proofs.Standing.{start_is_run}
 use Rattle.lc_run.proofs.held.Shared.new.Goals as goal
+use Rattle.lc_machine.proofs.Worlds.{idle_count, idle_placed}
 
 pub invariant_of-shared-clause-run : goal.invariant_of-shared-clause-run
 invariant_of-shared-clause-run g c =
@@ -17,7 +18,7 @@ invariant_of-shared-clause-run g c =
     start_is_run D n c.new-labels.result.items w c.new-labels.ensures.items is
 
 pub invariant_of-shared-clause-count : goal.invariant_of-shared-clause-count
-invariant_of-shared-clause-count g c = idle-count c.in_ok-stands.stands.items c.args.clients c.in_ok-stands.ensures
+invariant_of-shared-clause-count g c = idle_count c.in_ok-stands.stands.items c.args.clients c.in_ok-stands.ensures
 
 pub invariant_of-shared-clause-placed : goal.invariant_of-shared-clause-placed
-invariant_of-shared-clause-placed g c = idle-placed (development_in c.args.accepted.value).object c.in_ok-stands.stands.items c.args.clients c.in_ok-stands.ensures
+invariant_of-shared-clause-placed g c = idle_placed (development_in c.args.accepted.value).object c.in_ok-stands.stands.items c.args.clients c.in_ok-stands.ensures

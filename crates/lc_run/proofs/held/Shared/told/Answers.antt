@@ -3,7 +3,7 @@ use Rattle.std.specs.Prelude.{IfErr}
 use Rattle.std.proofs.lemmas.List.{length-map}
 use Rattle.lc_machine.specs.View.{clients_of}
 use Rattle.lc_machine.specs.World.{In}
-use Rattle.lc_base.specs.Limits.{label_limit}
+use Rattle.lc_run.specs.Limits.{label_limit}
 use Rattle.lc_check.specs.VerdictView.{development_in}
 use Rattle.lc_steps.specs.StepView.{world_in}
 use Rattle.lc_run.specs.LabelView.{label_of, labels_of}

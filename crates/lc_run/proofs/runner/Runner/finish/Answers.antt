@@ -1,5 +1,5 @@
 use Rattle.std.proofs.Common.{◌≡◌, length, All, ap, sym, subst, ◌∙◌}
-use Rattle.lc_hist.specs.Histories.{events_in}
+use Rattle.lc_history.specs.Histories.{events_in}
 use Rattle.lc_sound.specs.Instrumented.{history}
 use Rattle.lc_sound.specs.Order.{order}
 use Rattle.lc_check.specs.VerdictView.{development_in}

@@ -1,4 +1,5 @@
 use Rattle.std.proofs.Common.{◌≡◌, ◌+◌, ◌++◌, List, Option, Ok, Err, Some, Result, slice_get, length, refl, ap, sym, subst, ◌∙◌}
+use Rattle.lc_lemmas.proofs.Booleans.{left_true}
 use Rattle.lc_term.specs.Computed.{IsComputed}
 use Rattle.lc_term.specs.Meaning.{Env}
 use Rattle.lc_term.specs.State.{state_of, env_of, column_count, variable_count}
@@ -6,7 +7,6 @@ use Rattle.std.specs.Prelude.{IfSome}
 use Rattle.lc_term.specs.Updates.{stored_all, AreWithin}
 use Rattle.lc_term.specs.UpdateView.{writes_view}
 use Rattle.lc_seq.specs.Run.{seq_says, outcome_in}
-use Rattle.lc_term.proofs.Tests.{left_true}
 use Rattle.lc_seq.specs.Specification.{Branch, branches_in, chosen, names_differ}
 use Rattle.lc_seq.specs.Sequential.{given_in}
 use Rattle.lc_seq.specs.SpecView.{branches_of, operations_of, choice_of}

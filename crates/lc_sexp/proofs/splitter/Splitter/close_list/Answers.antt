@@ -1,6 +1,7 @@
 use Rattle.std.proofs.Common.{◌≡◌, ℕ, ◌+◌, ◌<◌, Bool, ◌∷◌, List, [], true, false, cond, length, refl, ap, ◌∙◌, arith}
+use Rattle.std.proofs.lemmas.List.{nil_from_length}
 use Rattle.lc_sexp.specs.Trees.{close_list}
-use Rattle.lc_sexp.proofs.Nodes.{lexed_close, none_listed}
+use Rattle.lc_sexp.proofs.Nodes.{lexed_close}
 use Rattle.lc_sexp.proofs.Cuts.{rooted_take}
 use Rattle.lc_sexp.specs.Flat.{is_rooted}
 use Rattle.lc_sexp.proofs.Splits.{machine_step, part_step, bracket_taken, list_taken}
@@ -20,7 +21,7 @@ returns-in_ok-end_form-in-0-clause-splits c = λ whole rest taken byte k h.
     let w = c.in-0 in
     let d = c.depth.ensures in
     c.in_ok-end_form-in-0.ensures.splits whole rest taken byte k
-    (in_form c.args.self.now.in_list _ c.requires.some (omega arith)) (none_listed c.args.self.now.machine.holes.items (omega arith)) h
+    (in_form c.args.self.now.in_list _ c.requires.some (omega arith)) (nil_from_length c.args.self.now.machine.holes.items (omega arith)) h
 
 pub returns-in_ok-set_aside-in-1-clause-splits : goal.returns-in_ok-set_aside-in-1-clause-splits
 returns-in_ok-set_aside-in-1-clause-splits c = λ whole rest taken byte k h.

@@ -1,8 +1,8 @@
 use Rattle.std.proofs.Common.{◌≢◌, ◌++◌, length, ap, sym, refl, ◌∙◌, arith, rules, length-drop}
+use Rattle.std.proofs.lemmas.List.{nil_from_length}
 use Rattle.lc_sexp.specs.Trees.{tokens_of}
 use Rattle.lc_sexp.specs.Flat.{is_rooted}
 use Rattle.lc_sexp.specs.Progress.{told}
-use Rattle.lc_sexp.proofs.Nodes.{none_listed}
 use Rattle.lc_sexp.proofs.Cuts.{rooted_none, told_cut_word}
 use Rattle.lc_sexp.proofs.Splits.{part_step, atom_step}
 use Rattle.lc_sexp.proofs.splitter.Splitter.end_begun_word.Goals as goal
@@ -17,7 +17,7 @@ returns-then-self-clause-word c = record {
       let w = c.word-word.ensures in
       let t = m.text.ok.0 in
       let some : length c.word-word.result.now ≢ 0 = omega (arith, t, m.begun, ap length w.word, length-drop m.start m.text.items, c.requires.begun) in
-      let no = none_listed m.holes.items (omega (arith, n, c.requires.outer)) in
+      let no = nil_from_length m.holes.items (omega (arith, n, c.requires.outer)) in
       let none = rooted_none m.text.items m.start m.nodes.items m.holes.items no h.rooted m.under_way in
       let same = ap (λ v. v.items) c.drop_word.ensures.nodes in
       part_step whole rest rest taken c.args.self.now c.set_aside.new.self m' c.in_ok-sexp.sexp c.if-self.true
@@ -39,7 +39,7 @@ returns-clause-word c = record {
       let w = c.word-word.ensures in
       let t = m.text.ok.0 in
       let some : length c.word-word.result.now ≢ 0 = omega (arith, t, m.begun, ap length w.word, length-drop m.start m.text.items, c.requires.begun) in
-      let no = none_listed m.holes.items (omega (arith, n, c.requires.outer)) in
+      let no = nil_from_length m.holes.items (omega (arith, n, c.requires.outer)) in
       let none = rooted_none m.text.items m.start m.nodes.items m.holes.items no h.rooted m.under_way in
       let same = ap (λ v. v.items) c.drop_word-2.ensures.nodes in
       atom_step whole rest taken c.args.self.now _ c.word-word.result.now c.if-self.false refl refl c.in_ok-push_atom.ensures c.in_ok-self.ensures c.in_ok-self-2.ensures

@@ -1,7 +1,7 @@
 use Rattle.std.proofs.Common.{◌+◌, Some, None, sym, ap, ◌∙◌, arith}
-use Rattle.lc_reading.proofs.Places.{place_below}
+use Rattle.lc_reading.proofs.Places.{place_below, placed_before}
 use Rattle.lc_reading.specs.TableView.{listed}
-use Rattle.lc_spec_text.proofs.Behind.{placed_before, placed_behind}
+use Rattle.lc_spec_text.proofs.Behind.{placed_behind}
 use Rattle.lc_spec_text.proofs.scope.InBranch.place.Goals as goal
 
 pub overflow_add-result : goal.overflow_add-result

@@ -3,9 +3,7 @@ use Rattle.lc_term.specs.View.{column_of}
 use Rattle.lc_term.proofs.Chained.{StandsIn, put_round, store_inside, rest_inside}
 use Rattle.lc_table.specs.Nodes.{is_column}
 use Rattle.lc_table.specs.Tables.{column_in, term_in}
-use Rattle.lc_table.proofs.Later.{column_is, term_is, term_later, kept_on}
-use Rattle.lc_table.proofs.Chained.{is_column_still}
-use Rattle.lc_table.proofs.NodeReplacement.{column_still}
+use Rattle.lc_table.proofs.Later.{column_is, term_is, term_later, kept_on, column_still, is_column_still}
 use Rattle.lc_table.proofs.table.Terms.+enter_term.Goals as goal
 
 pub enter_column-stores-init : goal.enter_column-stores-init

@@ -1,4 +1,0 @@
-//! The conditions that are counted from the text of a development are those that it has.
-#![tactic(auto)]
-
-pub mod laws;

@@ -1,5 +1,0 @@
-use Rattle.lc_facts.proofs.form.common_divisor.Given as goal
-
--- the rests fall
-abbrev pub decreases-rests : goal.decreases-rests
-decreases-rests l = l.rest

@@ -1,5 +1,0 @@
-use Rattle.lc_failing.proofs.Refuted.{not-valid}
-use Rattle.lc_failing.proofs.laws.what_fails_is_not_valid.Goals as goal
-
-pub returns : goal.returns
-returns c = not-valid

@@ -1,5 +1,0 @@
-use Rattle.lc_failing.specs.Situation.{AreNumbers}
-use Rattle.lc_failing.proofs.situation.initial_numbers.Given as goal
-
-abbrev pub invariant-loop-column : goal.invariant-loop-column
-invariant-loop-column l = AreNumbers l.content l.column l.numbers.items

@@ -1,4 +1,0 @@
-pub mod Failing
-pub mod Instance
-pub mod Situation
-pub mod Told

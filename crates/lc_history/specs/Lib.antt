@@ -1,0 +1,13 @@
+pub mod Checked
+pub mod Faults
+pub mod Histories
+pub mod History
+pub mod InCall
+pub mod Judged
+pub mod Reason
+pub mod Shadowed
+pub mod Spans
+pub mod Tests
+pub mod View
+pub mod WellFormed
+pub mod Limits

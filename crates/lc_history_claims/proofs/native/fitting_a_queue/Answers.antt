@@ -1,4 +1,0 @@
-use Rattle.lc_history_claims.proofs.native.fitting_a_queue.Goals as goal
-
-pub returns : goal.returns
-returns c = c.fits.ensures

@@ -1,7 +1,0 @@
-use Rattle.lc_history_claims.proofs.specifications.running.Goals as goal
-
-pub returns-clause-computed : goal.returns-clause-computed
-returns-clause-computed c = c.run.ensures.computed
-
-pub returns-clause-columns : goal.returns-clause-columns
-returns-clause-columns c = c.run.ensures.columns

@@ -1,4 +1,0 @@
-use Rattle.lc_logic_claims.proofs.tables.copying.Goals as goal
-
-pub returns : goal.returns
-returns c = c.copy_from.ensures.id

@@ -1,4 +1,0 @@
-use Rattle.lc_logic_claims.proofs.tables.entering_a_formula.Goals as goal
-
-pub returns : goal.returns
-returns c = c.enter_formula.ensures.id

@@ -1,4 +1,0 @@
-use Rattle.lc_logic_claims.proofs.tables.shifting.Goals as goal
-
-pub returns : goal.returns
-returns c = c.shift.ensures.id

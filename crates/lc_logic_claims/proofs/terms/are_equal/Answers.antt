@@ -1,4 +1,0 @@
-use Rattle.lc_logic_claims.proofs.terms.are_equal.Goals as goal
-
-pub returns : goal.returns
-returns c = c.eq.ensures

@@ -1,4 +1,0 @@
-use Rattle.lc_logic_claims.proofs.terms.drafting.Goals as goal
-
-pub returns : goal.returns
-returns c = c.write_all.ensures.saved

@@ -1,4 +1,0 @@
-use Rattle.lc_logic_claims.proofs.terms.is_ground.Goals as goal
-
-pub returns : goal.returns
-returns c = c.is_ground_of_quantifiers.ensures

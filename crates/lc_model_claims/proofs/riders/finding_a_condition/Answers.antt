@@ -1,4 +1,0 @@
-use Rattle.lc_model_claims.proofs.riders.finding_a_condition.Goals as goal
-
-pub returns : goal.returns
-returns c = c.condition.ensures

@@ -1,4 +1,0 @@
-use Rattle.lc_model_claims.proofs.riders.leaving_a_branch.Goals as goal
-
-pub returns : goal.returns
-returns c = c.leaves.ensures

@@ -1,2 +1,0 @@
-pub mod ColumnNames
-pub mod EdgeWords

@@ -1,5 +1,0 @@
-use Rattle.lc_outline_back.proofs.Numerals.{printed_number}
-use Rattle.lc_outline_back.proofs.laws.numbers_are_printed_as_they_stood.Goals as goal
-
-pub returns : goal.returns
-returns c = printed_number

@@ -1,6 +1,0 @@
-use Rattle.lc_reading.proofs.Fine.{of_fine}
-use Rattle.lc_outline_back.proofs.Formulas.{IsAgain, formula_again}
-use Rattle.lc_outline_back.proofs.laws.printed_formulas_read_back.Goals as goal
-
-pub returns : goal.returns
-returns c = λ names by n t f spelled free small e. (of_fine (IsAgain names by spelled free n t) _ f (formula_again names by spelled free n t small) e).1

@@ -1,4 +1,0 @@
-pub mod Spellings
-pub mod CodeSpelled
-pub mod KnownSpelled
-pub mod ReadsBack

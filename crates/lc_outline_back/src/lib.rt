@@ -1,4 +1,0 @@
-//! The text that is printed of a development reads back.
-#![tactic(auto)]
-
-pub mod laws;

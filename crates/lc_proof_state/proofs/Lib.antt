@@ -1,0 +1,6 @@
+mod Trees
+mod Steps
+mod Ways
+mod Apart
+mod Instances
+mod Refuted

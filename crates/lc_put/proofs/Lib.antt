@@ -1,0 +1,8 @@
+mod NodeReplacement
+mod ReplacedStores
+pub mod ByNumber
+mod NodeClosed
+mod Unmoved
+mod Entries
+mod Remembered
+mod Filled

@@ -1,5 +1,0 @@
-use Rattle.lc_rename.proofs.Extended.{renamed-derives}
-use Rattle.lc_rename.proofs.laws.renamed_proofs_derive.Goals as goal
-
-pub returns : goal.returns
-returns c = renamed-derives

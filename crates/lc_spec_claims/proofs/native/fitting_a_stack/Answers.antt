@@ -1,0 +1,4 @@
+use Rattle.lc_spec_claims.proofs.native.fitting_a_stack.Goals as goal
+
+pub returns : goal.returns
+returns c = c.fits.ensures

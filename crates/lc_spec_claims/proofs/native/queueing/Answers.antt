@@ -1,0 +1,4 @@
+use Rattle.lc_spec_claims.proofs.native.queueing.Goals as goal
+
+pub returns : goal.returns
+returns c = c.apply.ensures.applied

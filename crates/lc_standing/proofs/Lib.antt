@@ -1,3 +1,0 @@
-mod Trees
-mod Steps
-mod Ways

@@ -1,3 +1,0 @@
-pub mod Opened
-pub mod Standing
-pub mod Walk

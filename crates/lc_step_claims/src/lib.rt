@@ -1,0 +1,6 @@
+//! What the calls of steps and of drawn numbers promise: each promise again, over the call that keeps it. The planted bugs
+//! of these calls are here: bodies that return something wrong where the call returns what is right.
+#![tactic(auto)]
+
+pub mod random;
+pub mod steps;

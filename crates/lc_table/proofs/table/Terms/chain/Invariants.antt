@@ -1,9 +1,0 @@
-use Rattle.lc_table.proofs.Chained.{GoneDown}
-use Rattle.lc_table.proofs.table.Terms.chain.Given as goal
-
--- the stores so far are around the base
-abbrev pub invariant-stores : goal.invariant-stores
-invariant-stores l = GoneDown l.self l.fn.column l.stores.items l.base
-
-abbrev pub decreases-stores : goal.decreases-stores
-decreases-stores l = l.base.0

@@ -1,9 +1,0 @@
-use Rattle.std.proofs.Common.{map, take}
-use Rattle.lc_table.specs.Put.{entry_of}
-use Rattle.lc_table.specs.Tables.{Keeps}
-use Rattle.lc_table.proofs.Entries.{IsAbsent}
-use Rattle.lc_table.proofs.table.Terms.enter_stored.Given as goal
-
--- no entry so far is of the column
-abbrev pub invariant-loop-entry : goal.invariant-loop-entry
-invariant-loop-entry l = Keeps l.fn.self l.self × IsAbsent l.column.0 (map entry_of (take l.entry-index l.columns))

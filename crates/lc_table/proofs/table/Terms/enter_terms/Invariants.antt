@@ -1,9 +1,0 @@
-use Rattle.std.proofs.Common.{◌≡◌, take, map}
-use Rattle.lc_table.specs.PutNumbers.{terms_in, AreTerms}
-use Rattle.lc_table.specs.Tables.{Keeps}
-use Rattle.lc_term.specs.View.{term_of}
-use Rattle.lc_table.proofs.table.Terms.enter_terms.Given as goal
-
--- the terms so far are entered
-abbrev pub invariant-loop-term : goal.invariant-loop-term
-invariant-loop-term l = Keeps l.fn.self l.self × AreTerms l.self l.entered.items × (terms_in l.self l.entered.items ≡ map term_of (take l.term-index l.terms))

@@ -1,5 +1,0 @@
-use Rattle.lc_table.specs.Filling.{replacement_in}
-use Rattle.lc_table.proofs.table.Terms.put_in_term.Given as goal
-
-abbrev pub ghosts-replaced_term : goal.ghosts-replaced_term
-ghosts-replaced_term a = record { replacement = replacement_in a.put.now a.self.now }

@@ -1,5 +1,0 @@
-use Rattle.lc_table.specs.Filling.{replacement_in}
-use Rattle.lc_table.proofs.table.Terms.replace.Given as goal
-
-abbrev pub ghosts-replaced_formula : goal.ghosts-replaced_formula
-ghosts-replaced_formula a = record { replacement = replacement_in a.put.now a.self.now }

@@ -1,5 +1,0 @@
-use Rattle.lc_table.specs.Filling.{replacement_in}
-use Rattle.lc_table.proofs.table.Terms.replace_column.Given as goal
-
-abbrev pub ghosts-replaced_column : goal.ghosts-replaced_column
-ghosts-replaced_column a = record { replacement = replacement_in a.put.now a.self.now }

@@ -1,5 +1,0 @@
-use Rattle.lc_table.proofs.Remembered.{stands_later}
-use Rattle.lc_table.proofs.table.Terms.replaced_eq.Goals as goal
-
-pub returns-clause-done : goal.returns-clause-done
-returns-clause-done g c = stands_later g.R.Filled.replacement c.args.put.now c.replaced_sides.new.self c.eq-2.new.self c.replaced_sides.new.done c.in_ok-left.ensures.done c.eq-2.ensures.kept

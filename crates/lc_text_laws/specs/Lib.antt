@@ -1,0 +1,5 @@
+pub mod Spellings
+pub mod CodeSpelled
+pub mod KnownSpelled
+pub mod ReadsBack
+pub mod Counted
