@@ -1,7 +1,6 @@
 //! A certificate of a development that was read, checked in pieces.
 ghost use Rattle.std.specs.Prelude.{◌++◌, ℕ, List, Err, IfOk, OnOk};
 ghost use Rattle.lc_outline.specs.DevelopmentView.{development_view};
-ghost use Rattle.lc_sound.specs.Derived.{AreDerived};
 ghost use Rattle.lc_sound.specs.Linearizable.{IsLinearizableObject};
 ghost use Rattle.lc_check.specs.UpTo.{IsUpTo};
 ghost use Rattle.lc_check.specs.VerdictView.{IsCountOn, IsFinishedOn, IfFinished};
@@ -11,9 +10,7 @@ use crate::proving::{Alone, Prover};
 use crate::verdict::{Accepted, Finished, Verdict};
 use lc_base::{Fault, OutOfMemory};
 use lc_cert::CertReader;
-use lc_cond::laws::conditions_use_their_variables;
 use lc_outline::Development;
-use lc_sound::{derived_conditions_are_valid, linearizable_runs};
 use std::alloc::Global;
 use std::marker::Model;
 
@@ -39,8 +36,8 @@ impl Drop for Stage {
 }
 
 /// A development, and a certificate of it that comes in pieces. Each proof is checked as soon as it has ended, and
-/// dropped; the conditions are made part by part. What is wrong is reported by `finish`, as `check_certificate` reports it
-/// for the whole, however the file was cut. Once out of memory it returns `OutOfMemory` from then on.
+/// dropped; the conditions are made part by part. What is wrong is reported by `finish`, as `check` reports it
+/// of a whole certificate, however the file was cut. Once out of memory it returns `OutOfMemory` from then on.
 #[derive(Drop)]
 pub struct CertificateSession {
     stage: Stage,
@@ -61,15 +58,6 @@ impl Model for CertificateSession {
     ghost view = { λ s. s.stage };
 
     ghost invariant = { λ s. s.stage.out_of_memory ≡ false → (fed : List ℕ) × IsUpTo (development_view s.stage.development) fed s.stage.reader s.stage.progress };
-}
-
-/// If each condition of a development has a derivation, its object is linearizable by its specification.
-pub(crate) fn derived_is_linearizable(development: &Development)
-    requires { AreDerived (development_view development.now) }
-    ensures { IsLinearizableObject (development_view development.now).specification (development_view development.now).object }
-{
-    derived_conditions_are_valid(development);
-    linearizable_runs(development);
 }
 
 /// Reads the next piece, and takes all proofs that have ended.
@@ -130,11 +118,7 @@ fn finished(development: Development, count: Result<u64, Fault>) -> Result<Finis
     ensures linearizable { IfFinished result (λ D. IsLinearizableObject D.specification D.object) }
 {
     match count {
-        Ok(count) => {
-            conditions_use_their_variables(&development);
-            derived_is_linearizable(&development);
-            Ok(Finished::Accepted(Accepted::new(development, count)))
-        }
+        Ok(count) => Ok(Finished::Accepted(Accepted::proven(development, count))),
         Err(fault) => declined(development, fault),
     }
 }
@@ -221,7 +205,7 @@ impl CertificateSession {
         Ok(())
     }
 
-    /// The verdict on the development and the certificate file, which ends here, as `check_certificate` says.
+    /// The verdict on the development and the certificate file, which ends here, as `check` says.
     pub fn finish(self) -> Result<Verdict, OutOfMemory>
         ensures exactly { (D : Shown) → (cert : List ℕ) → IsFedOn D cert self → IfOk result (IsVerdictOn D cert) }
         ensures linearizable { IfAccepted result (λ D. IsLinearizableObject D.specification D.object) }

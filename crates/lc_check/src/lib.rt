@@ -11,7 +11,7 @@ mod verdict;
 mod walk;
 
 pub use certificate_session::CertificateSession;
-pub use checking::{check, check_certificate, proven_count, proven_count_by, verdict_by_count};
+pub use checking::{check, proven_count};
 pub use proving::{Alone, Prover, prove_one};
 pub use session::Session;
 pub use verdict::{Accepted, Finished, Verdict};

@@ -119,7 +119,7 @@ code_fits s text object h g =
       few = omega (arith, operations_counted d.bodies (operations_from 0 text.signatures object.1) fit.0, bodies_counted d.operations d.calls 0 0 (bodies_due (length (operations_in s))) ts, due, size, room);
     }
 
-object_is : (s : Sections) (text : SpecificationText) (object : Tables × List (BodyText Point)) → SpecificationFits (declared_in_sections s) s text → ObjectFits (declared_in_sections s) s object
+pub object_is : (s : Sections) (text : SpecificationText) (object : Tables × List (BodyText Point)) → SpecificationFits (declared_in_sections s) s text → ObjectFits (declared_in_sections s) s object
     → is_object (object_of text object) ≡ true
 object_is s text object h g =
     let d = declared_in_sections s in

@@ -1,12 +1,11 @@
 -- There are few columns and few actions in a development that is read.
-use Rattle.std.proofs.Common.{◌≡◌, ℕ, suc, ◌+◌, ◌≤◌, ◌<◌, Bool, true, false, cond, None, List, [], ◌∷◌, length, length-append, ap, ◌∙◌, subst, arith}
+use Rattle.std.proofs.Common.{◌≡◌, ℕ, suc, ◌+◌, ◌≤◌, ◌<◌, Bool, true, false, cond, List, [], ◌∷◌, length, length-append, ap, ◌∙◌, subst, arith}
 use Rattle.std.specs.Prelude.{codes, slice_get, nat_le}
 use Rattle.lc_base.specs.Limits.{action_limit, column_limit, width_limit}
 use Rattle.lc_sexp.specs.Parts.{fits, misshapen}
 use Rattle.lc_sexp.specs.TreeCode.{tree_count}
 use Rattle.lc_sexp.specs.Trees.{Tree, Trees, atom, list, none, ◌▸◌, item_count}
 use Rattle.lc_reading.proofs.Holding.{Holds, holds_unit, holds_weaker, both_holds, behind_holds, limited_holds}
-use Rattle.lc_reading.specs.Naming.{name_reading}
 use Rattle.lc_reading.specs.Readings.{Reading, fine, wrong, limited, both, listed_reading}
 use Rattle.lc_reading.specs.Words.{is}
 use Rattle.lc_reading.specs.declared.pass.Pass.TheVariants.{Shape}
@@ -14,9 +13,9 @@ use Rattle.lc_text.specs.Terms.{numbers_reading}
 use Rattle.lc_action.specs.Action.{Action}
 use Rattle.lc_object.specs.Syntax as C
 use Rattle.lc_object_text.proofs.Holding.{limited_below, Each, placed_holds, each_counted}
-use Rattle.lc_object_text.specs.Declaring.{kth_name_reading, column_name_reading, section_parts, section_reading}
+use Rattle.lc_object_text.specs.Declaring.{kth_name_reading}
 use Rattle.lc_object_text.specs.ObjectNames.{Span, Declared, later, spans_from}
-use Rattle.lc_object_text.specs.Objects.{own_name_reading, column_of, column_reading, ArrayText, array_of, first_column, columns_reading, array_parts, array_reading, concretes_of, specification_of, behind_own_name, abstracts_reading, signatures_reading, specification_parts, specification_reading, SpecificationText, first_reading}
+use Rattle.lc_object_text.specs.Objects.{own_name_reading, column_of, column_reading, ArrayText, array_of, first_column, columns_reading, array_parts, array_reading, concretes_of, first_reading}
 use Rattle.lc_object_text.specs.Rows.{cons, placed_reading, lists_reading}
 use Rattle.lc_object_text.specs.Sections.{before_others, forms_in}
 use Rattle.lc_rider_text.specs.Actions.{headed_action_reading, action_reading}
@@ -36,38 +35,6 @@ each_within P limit base f i (t ▸ ts) (x ∷ xs) few h =
     let below : base + i < limit = f i t x h.0 in
     let rest = each_within P limit base f (i + 1) ts xs (omega (arith, below)) h.1 in
     omega (arith, rest)
-
--- ---- abstract columns
-
-abbrev IsNamed : ℕ → Tree → List ℕ → Type 0
-IsNamed i t w = 0 + i < column_limit
-
-name_few : (names : List (List ℕ)) (i n : ℕ) (t : Tree) → Holds (IsNamed i t) (column_name_reading names 0 i n t)
-name_few names i n (atom w) = tt
-name_few names i n (list none) = tt
-name_few names i n (list (t ▸ ts)) = limited_below column_limit (0 + i) n (kth_name_reading names (0 + i) (n + 1) t)
-
-section_few : (word : List ℕ) (names : List (List ℕ)) (n : ℕ) (t : Tree) → Holds (λ ws. length ws ≤ column_limit) (section_reading word names 0 n t)
-section_few word names n t =
-    behind_holds (λ ws. length ws ≤ column_limit) word (section_parts names 0) n t
-    (λ n m ts. holds_weaker (Each IsNamed 0 ts) (λ ws. length ws ≤ column_limit) (section_parts names 0 n m ts) (λ ws h. omega (arith, each_within IsNamed column_limit 0 (λ i t w below. below) 0 ts ws (omega arith) h))
-    (placed_holds IsNamed (column_name_reading names 0) (name_few names) 0 m ts))
-
-abbrev pub HasFewAbstracts : SpecificationText → Type 0
-HasFewAbstracts text = length text.abstracts ≤ column_limit
-
-parts_few : (d : Declared) (n m : ℕ) (us : Trees) → Holds HasFewAbstracts (specification_parts d n m us)
-parts_few d n m none = tt
-parts_few d n m (t ▸ none) = tt
-parts_few d n m (t ▸ u ▸ ts) =
-    let p = m + item_count t in
-    both_holds (λ ws. length ws ≤ column_limit) (λ ss. Unit {0}) HasFewAbstracts specification_of (abstracts_reading d m t p u) (signatures_reading d n (p + item_count u) ts)
-    (both_holds (λ w. Unit {0}) (λ ws. length ws ≤ column_limit) (λ ws. length ws ≤ column_limit) behind_own_name (name_reading None [] m t) (section_reading (codes "abstract") d.columns 0 p u)
-    (holds_unit (name_reading None [] m t)) (section_few (codes "abstract") d.columns p u) (λ w ws h g. g))
-    (holds_unit (signatures_reading d n (p + item_count u) ts)) (λ ws ss h g. h)
-
-pub abstracts_few : (d : Declared) (n : ℕ) (t : Tree) → Holds HasFewAbstracts (specification_reading d n t)
-abstracts_few d n t = behind_holds HasFewAbstracts (codes "spec") (specification_parts d) n t (parts_few d)
 
 -- ---- columns of arrays
 

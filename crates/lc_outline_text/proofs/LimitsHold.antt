@@ -12,19 +12,19 @@ use Rattle.lc_reading.specs.declared.flaw.ReadFault.{ReadFault}
 use Rattle.lc_text.specs.Terms.{pair}
 use Rattle.lc_action.specs.Action.{Action}
 use Rattle.lc_seq.specs.Specification.{Column, Specification}
-use Rattle.lc_spec_text.specs.Specifications as Q
 use Rattle.lc_object_text.specs.ObjectNames.{abstracts_in, declared_in_sections}
 use Rattle.lc_object_text.specs.Objects as O
 use Rattle.lc_object_text.specs.Rows.{lists_reading}
-use Rattle.lc_object_text.specs.Sections.{Sections, behind_first, sections_of}
+use Rattle.lc_object_text.specs.Sections.{Sections, behind_first, parts_in, sections_of}
 use Rattle.lc_outline.specs.Development.{Development, first_system}
 use Rattle.lc_outline.specs.Limits.{outlines_are_limited, is_limited}
 use Rattle.lc_outline.specs.PartsView.{parts_view}
 use Rattle.lc_outline.specs.Sizes.{sizes_of, count}
 use Rattle.lc_outline.specs.declared.parts.Parts as P
 use Rattle.lc_rider_text.specs.Actions.{action_reading}
+use Rattle.lc_outline_text.proofs.Agreed.{IsSpecificationSaid, specification_said}
 use Rattle.lc_outline_text.proofs.Assembled.{SpecificationHolds, specification_of_text, ObjectHolds, object_of_text, fits_declared, first_auxiliary}
-use Rattle.lc_outline_text.proofs.ColumnsFew.{HasFewAbstracts, abstracts_few, HaveFew, arrays_few, AreFewBehind, auxiliaries_few, actions_few}
+use Rattle.lc_outline_text.proofs.ColumnsFew.{HaveFew, arrays_few, AreFewBehind, auxiliaries_few, actions_few}
 use Rattle.lc_outline_text.proofs.Fitting.{outlines_limited}
 use Rattle.lc_outline_text.proofs.Outlined.{all_points}
 use Rattle.lc_outline_text.proofs.WholeCounted.{forms_sized}
@@ -37,13 +37,12 @@ use Rattle.lc_outline_text.specs.Views.{IsFileRead}
 
 -- ---- columns and actions
 
-abbrev HasFew : O.SpecificationText × Specification → Type 0
-HasFew p = HasFewAbstracts p.0
+abbrev HasFew : Specification → Type 0
+HasFew q = length q.columns ≤ column_limit
 
 specification_few : (t : Tree) (d : Declarations) (n : ℕ) → Holds HasFew (specification_reading d n t)
 specification_few t d n =
-    let other = Q.specification_reading d.declared.columns n t in
-    both_holds HasFewAbstracts (λ q. Unit {0}) HasFew pair (O.specification_reading d.declared n t) other (abstracts_few d.declared n t) (holds_unit other) (λ text q h u. h)
+    holds_weaker _ HasFew (specification_reading d n t) (λ q h. (let said : IsSpecificationSaid (parts_in (codes "spec") t) q = h.1 in said.few)) (specification_said d.declared.columns n t)
 
 abbrev AreSidesFew : Declarations → Sides → Type 0
 AreSidesFew d x = AreFewBehind d.declared.auxiliaries x.auxiliaries × (length x.actions ≤ action_limit)
@@ -95,18 +94,18 @@ record IsWithin (D : Development) : Type 0 where
   actions : length D.actions ≤ action_limit
   outlines : outlines_are_limited D.specification.operations D.object.points D.outlines ≡ true
 
-within_of : (s : Sections) (p : O.SpecificationText × Specification) (o : Parts) → SpecificationHolds s p × HasFew p → ObjectHolds s o × IsObjectFew s o → IsWithin (development_of p o)
-within_of s p o h g =
+within_of : (s : Sections) (q : Specification) (o : Parts) → SpecificationHolds s q × HasFew q → ObjectHolds s o × IsObjectFew s o → IsWithin (development_of q o)
+within_of s q o h g =
     let d = declarations_in s in
-    let first = first_auxiliary s p o h.0 g.0 in
+    let first = first_auxiliary s q o h.0 g.0 in
     let same = h.0.columns in
     let declared = h.0.fit.abstracts in
-    let concretes = g.1.0 (omega (arith, declared, h.1)) in
+    let concretes = g.1.0 (omega (arith, declared, same, h.1)) in
     let all = g.1.1.0 (omega (arith, first, concretes, same, declared)) in
     record {
       columns = omega (arith, first, all);
       actions = g.1.1.1;
-      outlines = outlines_limited d (development_of p o) (all_points o.1) (fits_declared s p o h.0 g.0);
+      outlines = outlines_limited d (development_of q o) (all_points o.1) (fits_declared s q o h.0 g.0);
     }
 
 second_few : (s : Sections) (n : ℕ) (ts : Trees) → Holds (λ o. ObjectHolds s o × IsObjectFew s o) (second_form_reading (declarations_in s) s n ts)
@@ -124,7 +123,7 @@ forms_few (t ▸ u ▸ ts) =
     let s = sections_of (t ▸ u ▸ ts) in
     let d = declarations_of (t ▸ u ▸ ts) in
     let r = specification_reading d 0 t in
-    both_holds (λ p. SpecificationHolds s p × HasFew p) (λ o. ObjectHolds s o × IsObjectFew s o) IsWithin development_of r (second_form_reading (declarations_in s) s (0 + item_count t) (u ▸ ts))
+    both_holds (λ q. SpecificationHolds s q × HasFew q) (λ o. ObjectHolds s o × IsObjectFew s o) IsWithin development_of r (second_form_reading (declarations_in s) s (0 + item_count t) (u ▸ ts))
     (and_holds (SpecificationHolds s) HasFew r (specification_of_text t u ts) (specification_few t d 0)) (second_few s (0 + item_count t) (u ▸ ts)) (within_of s)
 
 -- what is read within a limit

@@ -5,7 +5,7 @@ use Rattle.std.specs.Prelude.{codes, slice_get, sum_by}
 use Rattle.lc_sexp.specs.Parts.{fits, form_fit}
 use Rattle.lc_sexp.specs.TreeCode.{tree_count}
 use Rattle.lc_sexp.specs.Trees.{Tree, Trees, none, ◌▸◌, item_count}
-use Rattle.lc_reading.proofs.Holding.{Holds, holds_of_fine, holds_unit, both_holds, ended_holds, and_holds}
+use Rattle.lc_reading.proofs.Holding.{Holds, holds_of_fine, holds_unit, both_holds, ended_holds, holds_weaker, and_holds}
 use Rattle.lc_reading.specs.Readings.{fine}
 use Rattle.lc_text.specs.Terms.{pair}
 use Rattle.lc_term.specs.Lists.{concat_map, concat_places}
@@ -25,7 +25,7 @@ use Rattle.lc_outline_text.proofs.Fitting.{matched_below}
 use Rattle.lc_outline_text.proofs.Outlined.{all_points}
 use Rattle.lc_outline_text.specs.Bodies.{bodies_reading}
 use Rattle.lc_outline_text.specs.Declarations.{Declarations, declarations_in, declarations_of}
-use Rattle.lc_outline_text.specs.Developments.{specification_reading, Parts, tables_reading, object_reading, second_form_reading, development_of, forms_reading}
+use Rattle.lc_outline_text.specs.Developments.{specification_reading, text_seen, Parts, tables_reading, object_reading, second_form_reading, development_of, forms_reading}
 use Rattle.lc_outline_text.specs.Sides.{Sides, sides_reading}
 use Rattle.lc_outline_text.specs.Sizes.{Totals, totals_of, condition_count}
 use Rattle.lc_outline_text.proofs.ArraysCounted.{array_said}
@@ -43,8 +43,8 @@ use Rattle.lc_object_text.proofs.ObjectHolds.{behind_one, behind_two}
 -- ---- the specification
 
 -- its operations are those of the section
-abbrev IsSpecified : Sections → O.SpecificationText × Specification → Type 0
-IsSpecified s p = Alike (IsOperationOf (declared_in_sections s).columns) (operations_in s) p.1.operations
+abbrev IsSpecified : Sections → Specification → Type 0
+IsSpecified s q = Alike (IsOperationOf (declared_in_sections s).columns) (operations_in s) q.operations
 
 operations_said : (t u : Tree) (ts : Trees) (qs : List Operation) → form_fit (codes "spec") t ≡ fits (parts_in (codes "spec") t) → AreOperationsOf (parts_in (codes "spec") t) qs
     → Alike (IsOperationOf (declared_in_sections (sections_of (t ▸ u ▸ ts))).columns) (operations_in (sections_of (t ▸ u ▸ ts))) qs
@@ -65,8 +65,8 @@ specified : (t u : Tree) (ts : Trees) → Holds (IsSpecified (sections_of (t ▸
 specified t u ts =
     let s = sections_of (t ▸ u ▸ ts) in
     let d = declared_in_sections s in
-    both_holds (λ x. Unit {0}) (λ (q : Specification). (form_fit (codes "spec") t ≡ fits (parts_in (codes "spec") t)) × AreOperationsOf (parts_in (codes "spec") t) q.operations) (IsSpecified s) pair
-    (O.specification_reading d 0 t) (Q.specification_reading d.columns 0 t) (holds_unit (O.specification_reading d 0 t)) (specification_said d.columns 0 t) (λ x q a h. operations_said t u ts q.operations h.0 h.1)
+    holds_weaker (λ (q : Specification). (form_fit (codes "spec") t ≡ fits (parts_in (codes "spec") t)) × AreOperationsOf (parts_in (codes "spec") t) q.operations) (IsSpecified s)
+    (Q.specification_reading d.columns 0 t) (λ q h. operations_said t u ts q.operations h.0 h.1) (specification_said d.columns 0 t)
 
 -- ---- the object
 
@@ -83,18 +83,18 @@ parts_said s n =
 
 -- ---- the whole
 
-abbrev IsSpecification : Sections → O.SpecificationText × Specification → Type 0
-IsSpecification s p = SpecificationHolds s p × IsSpecified s p
+abbrev IsSpecification : Sections → Specification → Type 0
+IsSpecification s q = SpecificationHolds s q × IsSpecified s q
 
 abbrev IsObject : Sections → Parts → Type 0
 IsObject s o = ObjectHolds s o × ArePartsOf s o
 
-module _ (s : Sections) (p : O.SpecificationText × Specification) (o : Parts) (h : IsSpecification s p) (g : IsObject s o) where
+module _ (s : Sections) (q : Specification) (o : Parts) (h : IsSpecification s q) (g : IsObject s o) where
   abbrev d : Declarations
   d = declarations_in s
 
   abbrev D : Development
-  D = development_of p o
+  D = development_of q o
 
   abbrev n : Totals
   n = totals_of d s
@@ -104,17 +104,17 @@ module _ (s : Sections) (p : O.SpecificationText × Specification) (o : Parts) (
 
   meets : Meets d D n
   meets =
-      let fit = fits_declared s p o h.0 g.0 in
+      let fit = fits_declared s q o h.0 g.0 in
       let sides = g.1.0 in
       let actions = alike_length (IsActionOf d.declared.columns) d.actions D.actions sides.actions in
       let spans : HaveSpans d.declared.spans D.object.arrays =
-      subst (λ k. HaveSpans (spans_from k (arrays_in s)) D.object.arrays) h.0.fit.abstracts (spans_have (length p.0.abstracts) (arrays_in s) o.0.0.arrays g.0.fit.0) in
+      subst (λ k. HaveSpans (spans_from k (arrays_in s)) D.object.arrays) h.0.fit.abstracts (spans_have (length (text_seen q).abstracts) (arrays_in s) o.0.0.arrays g.0.fit.0) in
       record {
         invariant = length-map D.conjuncts (λ c. c.formula) ∙ sides.invariant;
         idle = sides.idle;
         actions = omega (arith, actions);
         columns = fit.columns;
-        own = λ o q is. omega (arith, fit.counted, matched_below D.object.operations D.specification.operations o q fit.matched is);
+        own = λ o r is. omega (arith, fit.counted, matched_below D.object.operations D.specification.operations o r fit.matched is);
         agrees = record {
           own = fit.own;
           in_order = in_order_said d D fit.columns (length-map d.operations first_text) h.0.goes h.1;
@@ -132,7 +132,7 @@ module _ (s : Sections) (p : O.SpecificationText × Specification) (o : Parts) (
 
   sized : count (sizes_of D) ≡ condition_count d s
   sized =
-      let fit = fits_declared s p o h.0 g.0 in
+      let fit = fits_declared s q o h.0 g.0 in
       let always = meets.invariant in
       let idle = meets.idle in
       let bodies = bodies_counted d D n meets 0 0 d.declared.bodies D.object.operations s.bodies.trees o.1 fit.operations placed_all (points_stand D ps fit.points fit.outlines)

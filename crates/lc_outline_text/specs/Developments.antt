@@ -5,11 +5,11 @@ use Rattle.lc_sexp.specs.Trees.{Tree, Trees, none, ◌▸◌, item_count}
 use Rattle.lc_reading.specs.Readings.{Reading, wrong, limited, both, ended}
 use Rattle.lc_reading.specs.declared.pass.Pass.TheVariants.{Shape}
 use Rattle.lc_text.specs.Terms.{pair}
-use Rattle.lc_seq.specs.Specification.{Specification}
+use Rattle.lc_seq.specs.Specification.{Operation, Specification}
 use Rattle.lc_spec_text.specs.Specifications as Q
 use Rattle.lc_object.specs.Syntax.{Point}
 use Rattle.lc_object_text.specs.Objects as O
-use Rattle.lc_object_text.specs.Objects.{SpecificationText}
+use Rattle.lc_object_text.specs.Objects.{Signature, SpecificationText}
 use Rattle.lc_object_text.specs.Points.{BodyText, body_of}
 use Rattle.lc_object_text.specs.Sections.{Sections, sections_of}
 use Rattle.lc_outline.specs.Development.{Outline, Development}
@@ -18,10 +18,17 @@ use Rattle.lc_outline_text.specs.Declarations.{Declarations, declarations_of}
 use Rattle.lc_outline_text.specs.Sizes.{condition_count}
 use Rattle.lc_outline_text.specs.Sides.{Sides, sides_reading}
 
--- the specification, and as much of it as the object's code sees. Its branches see the abstract columns alone, and the others
--- of the file may not be stored in
-abbrev pub specification_reading : Declarations → ℕ → Tree → Reading (SpecificationText × Specification)
-specification_reading d n t = both pair (O.specification_reading d.declared n t) (Q.specification_reading d.declared.columns n t)
+-- the specification. Its branches see the abstract columns alone, and the others of the file may not be stored in
+abbrev pub specification_reading : Declarations → ℕ → Tree → Reading Specification
+specification_reading d n t = Q.specification_reading d.declared.columns n t
+
+-- what its object's code sees of an operation
+abbrev pub signature_seen : Operation → Signature
+signature_seen q = record { name = q.name; arguments = q.arguments; replies = q.replies }
+
+-- and of the whole
+abbrev pub text_seen : Specification → SpecificationText
+text_seen s = record { abstracts = map (λ c. c.name) s.columns; signatures = map signature_seen s.operations }
 
 -- an object's own tables, what is beside its code, and its bodies with their outlines
 abbrev pub Parts : Type 0
@@ -43,10 +50,10 @@ abbrev pub outlines_of : List (BodyText (Point × Outline)) → List Outline
 outlines_of [] = []
 outlines_of (b ∷ bs) = map (λ p. p.1) b.points ++ outlines_of bs
 
-abbrev pub development_of : SpecificationText × Specification → Parts → Development
+abbrev pub development_of : Specification → Parts → Development
 development_of s o = record {
-  specification = s.1;
-  object = O.object_of s.0 (o.0.0, map code_of o.1);
+  specification = s;
+  object = O.object_of (text_seen s) (o.0.0, map code_of o.1);
   auxiliaries = o.0.1.auxiliaries;
   actions = o.0.1.actions;
   conjuncts = o.0.1.conjuncts;

@@ -10,9 +10,7 @@ use Rattle.lc_term.specs.View.{formula_of}
 use Rattle.lc_term.specs.declared.formula.Formula.{Formula}
 use Rattle.lc_seq.specs.Specification as Q
 use Rattle.lc_seq.specs.SpecView.{column_of}
-use Rattle.lc_seq.specs.TextView.{specification_of}
 use Rattle.lc_seq.specs.declared.specification.Column.{Column}
-use Rattle.lc_seq.specs.declared.specification.TextSpec.{TextSpec}
 use Rattle.lc_action.specs.Action as A
 use Rattle.lc_action.specs.ActionView.{action_of}
 use Rattle.lc_action.specs.declared.action.Action.{Action}
@@ -24,9 +22,8 @@ use Rattle.lc_object.specs.View.{point_of}
 use Rattle.lc_object.specs.declared.parts.Point.{Point}
 use Rattle.lc_object_text.specs.Objects as OT
 use Rattle.lc_object_text.specs.Points as PT
-use Rattle.lc_object_text.specs.Texts.{body_text_view, specification_view, tables_view}
+use Rattle.lc_object_text.specs.Texts.{body_text_view, tables_view}
 use Rattle.lc_object_text.specs.declared.body.BodyText.{BodyText}
-use Rattle.lc_object_text.specs.declared.signatures.SpecificationText.{SpecificationText}
 use Rattle.lc_object_text.specs.declared.tables.Tables.{Tables}
 use Rattle.lc_outline.specs.Development as D
 use Rattle.lc_outline.specs.PartsView.{outline_of, parts_view}
@@ -66,9 +63,6 @@ sides_view s = record {
   conjuncts = map conjunct_of s.conjuncts.items;
   idle = map formula_of s.idle.items;
 }
-
-abbrev pub specifications_view : SpecificationText × TextSpec → OT.SpecificationText × Q.Specification
-specifications_view p = (specification_view p.0, specification_of p.1)
 
 abbrev pub tables_and_sides : Tables × Sides → OT.Tables × B.Sides
 tables_and_sides p = (tables_view p.0, sides_view p.1)

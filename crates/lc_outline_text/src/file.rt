@@ -15,8 +15,8 @@ ghost use Rattle.lc_reading.specs.Results.{IsReading};
 ghost use Rattle.lc_tie.specs.TieView.{numbers_in};
 ghost use Rattle.lc_outline_text.specs.Declarations.{declarations_of};
 ghost use Rattle.lc_outline_text.specs.DeclarationsView.{declarations_view};
-ghost use Rattle.lc_outline_text.specs.Developments.{specification_reading, tables_reading, object_reading, second_form_reading, forms_reading, file_reading};
-ghost use Rattle.lc_outline_text.specs.Views.{specifications_view, tables_and_sides, object_parts_view, IsFileRead, is_told_before_limits};
+ghost use Rattle.lc_outline_text.specs.Developments.{tables_reading, object_reading, second_form_reading, forms_reading, file_reading};
+ghost use Rattle.lc_outline_text.specs.Views.{tables_and_sides, object_parts_view, IsFileRead, is_told_before_limits};
 
 use crate::bodies::read_bodies;
 use crate::conditions::condition_count;
@@ -25,34 +25,12 @@ use crate::declaring::read_all_declarations;
 use crate::made::{ObjectParts, made_development};
 use crate::sides::{Sides, read_sides};
 use lc_base::{CONDITION_LIMIT, Fault};
-use lc_object_text::{
-    Sections, SpecificationText, Tables, find_sections, read_specification as read_text,
-    read_tables,
-};
+use lc_object_text::{Sections, Tables, find_sections, read_tables};
 use lc_outline::{Development, Parts};
 use lc_reading::{Part, Pass, ReadFault, both, ended, limited, next_part, wrong};
-use lc_seq::TextSpec;
 use lc_sexp::{Cursor, Forms};
-use lc_spec_text::read_specification as read_meaning;
+use lc_spec_text::read_specification;
 use std::alloc::Global;
-
-/// The specification, and as much of it as the object's code sees.
-fn read_specification<'a>(
-    alloc: Global,
-    declarations: &Declarations<'a>,
-    part: Part<'a>,
-) -> Result<(SpecificationText, TextSpec), ReadFault>
-    ensures { IsReading specifications_view (specification_reading (declarations_view declarations.now) (place_of part.entry) (tree_of part.entry)) result }
-{
-    let text = read_text(alloc, &declarations.declared, part);
-    match both(
-        text,
-        read_meaning(alloc, &declarations.declared.columns, part),
-    ) {
-        Ok((text, specification)) => Ok((text, specification)),
-        Err(fault) => Err(fault),
-    }
-}
 
 /// An object's own tables, and what is beside its code, in the object of this number.
 fn read_tables_and_sides(
@@ -123,7 +101,7 @@ fn read_forms<'a>(
     let Ok(part) = next_part(&mut forms) else {
         return Err(wrong(Pass::Shape, number));
     };
-    let specification = read_specification(alloc, declarations, part);
+    let specification = read_specification(alloc, &declarations.declared.columns, part);
     let object = read_second_form(alloc, declarations, sections, forms);
     let (specification, object) = both(specification, object)?;
     let parts = made_development(alloc, specification, object)?;

@@ -2,20 +2,21 @@
 ghost use Rattle.std.specs.Prelude.{◌≡◌, ◌++◌, true, map, IfOk};
 ghost use Rattle.lc_object.specs.View.{point_of, column_view};
 ghost use Rattle.lc_object.specs.WellFormed.{is_object};
-ghost use Rattle.lc_object_text.specs.Texts.{body_texts_view};
+ghost use Rattle.lc_object_text.specs.Texts.{body_texts_view, signature_view, specification_view};
 ghost use Rattle.lc_outline.specs.Development.{start_numbers};
-ghost use Rattle.lc_seq.specs.SpecView.{column_of};
+ghost use Rattle.lc_seq.specs.SpecView.{column_of, operation_of};
+ghost use Rattle.lc_seq.specs.TextView.{specification_of};
 ghost use Rattle.lc_outline.specs.PartsView.{outline_of, parts_view};
 ghost use Rattle.lc_tie.specs.TieView.{numbers_in};
-ghost use Rattle.lc_outline_text.specs.Developments.{code_of, outlines_of, development_of};
-ghost use Rattle.lc_outline_text.specs.Views.{outlined_of, bodies_outlined, specifications_view, object_parts_view, declared_numbers};
+ghost use Rattle.lc_outline_text.specs.Developments.{code_of, outlines_of, signature_seen, text_seen, development_of};
+ghost use Rattle.lc_outline_text.specs.Views.{outlined_of, bodies_outlined, object_parts_view, declared_numbers};
 
 use crate::sides::Sides;
 use lc_base::OutOfMemory;
 use lc_object::{Column as Concrete, Object, Point};
-use lc_object_text::{BodyText, SpecificationText, Tables, made_parts};
+use lc_object_text::{BodyText, Signature, SpecificationText, Tables, made_parts};
 use lc_outline::{Outline, Parts};
-use lc_seq::{Column, TextSpec};
+use lc_seq::{Column, Operation, TextSpec};
 use lc_tie::Tie;
 use std::alloc::Global;
 
@@ -80,17 +81,48 @@ fn start_numbers(
     Ok(numbers)
 }
 
+/// What its object's code sees of an operation.
+fn signature_seen(alloc: Global, operation: &Operation) -> Result<Signature, OutOfMemory>
+    ensures { IfOk result (λ signature. signature_view signature ≡ signature_seen (operation_of operation.now)) }
+{
+    Ok(Signature {
+        name: operation.name,
+        arguments: Vec::from_slice(alloc, &operation.arguments)?,
+        replies: operation.replies,
+    })
+}
+
+/// What its object's code sees of a specification.
+fn text_seen(alloc: Global, specification: &TextSpec) -> Result<SpecificationText, OutOfMemory>
+    ensures { IfOk result (λ text. specification_view text ≡ text_seen (specification_of specification.now)) }
+{
+    let columns = specification.columns();
+    let mut abstracts = Vec::with_capacity(alloc, columns.len())?;
+    for column in columns {
+        abstracts.push(column.name)?;
+    }
+    let operations = specification.operations();
+    let mut signatures = Vec::with_capacity(alloc, operations.len())?;
+    for operation in operations {
+        signatures.push(signature_seen(alloc, operation)?)?;
+    }
+    Ok(SpecificationText {
+        abstracts,
+        signatures,
+    })
+}
+
 /// The parts of the development of this specification and this object.
 pub(crate) fn made_development(
     alloc: Global,
-    specification: (SpecificationText, TextSpec),
+    specification: TextSpec,
     object: ObjectParts,
 ) -> Result<Parts, OutOfMemory>
-    requires { is_object (development_of (specifications_view specification) (object_parts_view object)).object ≡ true }
-    ensures shown { IfOk result (λ parts. parts_view parts ≡ development_of (specifications_view specification) (object_parts_view object)) }
+    requires { is_object (development_of (specification_of specification) (object_parts_view object)).object ≡ true }
+    ensures shown { IfOk result (λ parts. parts_view parts ≡ development_of (specification_of specification) (object_parts_view object)) }
     ensures initial { IfOk result (λ parts. numbers_in parts.tie ≡ start_numbers (parts_view parts)) }
 {
-    let (text, specification) = specification;
+    let text = text_seen(alloc, &specification)?;
     let ((tables, sides), bodies) = object;
     let (code, outlines) = code_and_outlines(alloc, bodies)?;
     let object = Object::of_parts(made_parts(alloc, text, (tables, code))?);

@@ -8,7 +8,7 @@ ghost use Rattle.lc_cond.specs.Conditions.{conditions};
 ghost use Rattle.lc_cond.specs.Numbering.{IsNumbering};
 ghost use Rattle.lc_sound.specs.Linearizable.{IsLinearizableObject};
 ghost use Rattle.lc_check.specs.Verdicts.{IsProvenBy};
-ghost use Rattle.lc_check.specs.VerdictView.{IsVerdict, IsVerdictOn, IfAccepted, IsCountOn};
+ghost use Rattle.lc_check.specs.VerdictView.{IsVerdict, IsVerdictOn, IfAccepted};
 ghost use Rattle.lc_pool.specs.Desks.{development_in, IsKnownIn};
 ghost use Rattle.lc_pool.specs.Known.{at_place};
 ghost use Rattle.lc_pool.specs.Marks.{AllHold};
@@ -22,7 +22,7 @@ use crate::laws::known_entries_prove_the_development;
 use crate::pool::pooled;
 use crate::work::Work;
 use lc_base::{Fault, OutOfMemory};
-use lc_check::{Verdict, proven_count_by, verdict_by_count};
+use lc_check::{Accepted, CertificateSession, Verdict};
 use lc_cond::Numbering;
 use lc_outline::Development;
 use lc_outline_text::development_of;
@@ -135,27 +135,42 @@ fn proven_in_pieces<R: Threads + Wait + Sync, G: Gate + Sync>(
     Ok(None)
 }
 
-/// How many conditions the development has, if the file is a certificate of it that is accepted; else the first refusal.
-/// One worker reads the certificate as it is, which needs no cuts.
-fn proven_count<R: Threads + Wait + Sync, G: Gate + Sync>(
+/// The same, if there is more than one worker: a lone one reads the certificate as it is, which needs no cuts.
+fn proven_by_workers<R: Threads + Wait + Sync, G: Gate + Sync>(
     rt: &R,
     alloc: Global,
     gate: &G,
     development: &Development,
     cert: &[u8],
     workers: u64,
-) -> Result<u64, Fault>
-    ensures { IsCountOn (development_view development.now) cert.now result }
+) -> Result<Option<u64>, OutOfMemory>
+    ensures { let d = development_view development.now in
+        IfOk result (λ count. IfSome count (λ n. (n ≡ length (conditions d)) × IsProvenBy d cert.now)) }
 {
     if workers > 1 {
-        if let Some(count) = proven_in_pieces(rt, alloc, gate, development, cert, workers)? {
-            return Ok(count);
-        }
+        proven_in_pieces(rt, alloc, gate, development, cert, workers)
+    } else {
+        Ok(None)
     }
-    proven_count_by(alloc, development, &mut Gated { rt, gate }, cert)
 }
 
-/// The verdict on a development and a certificate file, as `check_certificate` says it, by `workers` workers. The gate is
+/// The verdict on a development and a certificate file, which is read and checked whole.
+fn check_whole<R: Wait, G: Gate>(
+    rt: &R,
+    alloc: Global,
+    gate: &G,
+    development: Development,
+    cert: &[u8],
+) -> Result<Verdict, OutOfMemory>
+    ensures exactly { IfOk result (IsVerdictOn (development_view development) cert.now) }
+    ensures linearizable { IfAccepted result (λ D. IsLinearizableObject D.specification D.object) }
+{
+    let mut session = CertificateSession::new(alloc, development)?;
+    session.feed_by(&mut Gated { rt, gate }, cert)?;
+    session.finish()
+}
+
+/// The verdict on a development and a certificate file, as a `CertificateSession` fed with it says, by `workers` workers. The gate is
 /// called around the check of each condition, by whoever makes it.
 ///
 /// Only acceptance is found by the workers: whatever else comes up, the certificate is read and checked whole.
@@ -170,8 +185,11 @@ pub fn check_certificate_with<R: Threads + Wait + Sync, G: Gate + Sync>(
     ensures exactly { IfOk result (IsVerdictOn (development_view development) cert.now) }
     ensures linearizable { IfAccepted result (λ D. IsLinearizableObject D.specification D.object) }
 {
-    let count = proven_count(rt, alloc, gate, &development, cert, workers);
-    verdict_by_count(development, cert, count)
+    let count = proven_by_workers(rt, alloc, gate, &development, cert, workers)?;
+    match count {
+        Some(count) => Ok(Verdict::Accepted(Accepted::proven(development, count))),
+        None => check_whole(rt, alloc, gate, development, cert),
+    }
 }
 
 /// The verdict on a development file and a certificate file, as `check` says it, by `workers` workers. The gate is called

@@ -45,7 +45,7 @@ operation_item_names columns before n (list none) = tt
 operation_item_names columns before n (list (list us ▸ ts)) = tt
 operation_item_names columns before n (list (atom w ▸ ts)) = operation_list_names columns before n w ts (is w (codes "op"))
 
-operation_names : (columns : Columns) (before : List (List ℕ)) (n : ℕ) (t : Tree) → Holds (λ o. IsNew before o.name × (second_name t ≡ o.name ∷ [])) (operation_reading columns before n t)
+pub operation_names : (columns : Columns) (before : List (List ℕ)) (n : ℕ) (t : Tree) → Holds (λ o. IsNew before o.name × (second_name t ≡ o.name ∷ [])) (operation_reading columns before n t)
 operation_names columns before n t =
     limited_holds (λ o. IsNew before o.name × (second_name t ≡ o.name ∷ [])) (is_full (Some operation_limit) (length before)) n _
     (mapped_holds (λ p. IsNew before (the_operation p).name × (second_name t ≡ (the_operation p).name ∷ [])) (λ o. IsNew before o.name × (second_name t ≡ o.name ∷ [])) the_operation _

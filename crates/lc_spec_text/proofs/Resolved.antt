@@ -344,7 +344,7 @@ column_list_holds : (before : List (List ℕ)) (n : ℕ) (t : Tree) → Holds (�
 column_list_holds before n (atom w) = tt
 column_list_holds before n (list ts) = column_parts_hold before n (n + 1) ts
 
-column_holds : (before : List (List ℕ)) (n : ℕ) (t : Tree) → Holds (λ d. length (first_name t) ≡ 1) (column_reading before n t)
+pub column_holds : (before : List (List ℕ)) (n : ℕ) (t : Tree) → Holds (λ d. length (first_name t) ≡ 1) (column_reading before n t)
 column_holds before n t =
     mapped_holds (λ p. length (first_name t) ≡ 1) (λ d. length (first_name t) ≡ 1) the_column _
     (limited_holds (λ p. length (first_name t) ≡ 1) (is_full (Some column_limit) (length before)) n _ (column_list_holds before n t)) (λ p h. h)

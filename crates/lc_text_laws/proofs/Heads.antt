@@ -1,19 +1,16 @@
 -- What the heads of operations, points and bodies have that are read.
-use Rattle.std.proofs.Common.{◌≡◌, ℕ, ◌+◌, Bool, true, false, ◌||◌, cond, List, [], ◌∷◌, ◌++◌, length, Option, Some, None, map, refl, sym, ap, ap₂, ◌∙◌}
+use Rattle.std.proofs.Common.{◌≡◌, ℕ, ◌+◌, Bool, true, false, cond, List, [], ◌∷◌, ◌++◌, append_assoc, length, length-append, Option, Some, None, map, arith, refl, sym, ap, ap₂, ◌∙◌}
 use Rattle.std.specs.List.{list_any}
 use Rattle.std.specs.Prelude.{codes, nat_le, nat_lt, slice_get, take}
-use Rattle.lc_lemmas.proofs.Booleans.{or_false_right}
-use Rattle.lc_base.specs.NameText.{is_name}
-use Rattle.lc_base.specs.Limits.{local_limit, operation_limit, point_limit}
+use Rattle.lc_base.specs.Limits.{local_limit, point_limit}
 use Rattle.lc_sexp.specs.TreeCode.{tree_count}
 use Rattle.lc_sexp.specs.Trees.{Tree, Trees, atom, list, none, ◌▸◌, item_count, row}
-use Rattle.lc_reading.proofs.Fine.{IfFine, if_fine_unit, if_fine_weaker, cond_fine, both_fine, mapped_fine, of_fine}
+use Rattle.lc_reading.proofs.Fine.{IfFine, if_fine_unit, if_fine_weaker, cond_fine, both_fine, of_fine}
 use Rattle.lc_reading.specs.Listed.{names_among}
-use Rattle.lc_reading.specs.Naming.{use_reading, within, declaration_reading}
+use Rattle.lc_reading.specs.Naming.{use_reading}
 use Rattle.lc_reading.specs.Readings.{Reading, fine, wrong, both}
-use Rattle.lc_reading.specs.Reserved.{is_reserved}
-use Rattle.lc_reading.specs.Words.{is, is_long}
-use Rattle.lc_reading.specs.declared.pass.Pass.TheVariants.{Shape, Repeated}
+use Rattle.lc_reading.specs.Words.{is}
+use Rattle.lc_reading.specs.declared.pass.Pass.TheVariants.{Shape}
 use Rattle.lc_term.specs.Lists.{Every}
 use Rattle.lc_text.specs.Names.{Names}
 use Rattle.lc_text.specs.Terms.{pair}
@@ -21,8 +18,8 @@ use Rattle.lc_object.specs.Syntax.{Point}
 use Rattle.lc_outline.specs.Development.{Outline}
 use Rattle.lc_object_text.specs.Declaring.{kth_name_reading, names_reading}
 use Rattle.lc_object_text.specs.Instructions.{instruction_reading}
-use Rattle.lc_object_text.specs.ObjectNames.{Declared, Body, text_in, first_text, items_within, within_first, later, call_or, points_in, code_names, body_names, bodies_due}
-use Rattle.lc_object_text.specs.Objects.{Signature, signature_of, replies_reading, call_reading, operation_name_reading, signature_parts, signature_reading, signatures_reading, specification_of, SpecificationText, abstracts_reading, specification_parts, specification_reading}
+use Rattle.lc_object_text.specs.ObjectNames.{Declared, Body, text_in, first_text, items_within, within_first, later, points_in, code_names, body_names, bodies_due}
+use Rattle.lc_object_text.specs.Objects.{Signature}
 use Rattle.lc_object_text.specs.Points.{BodyText, is_shaped, point_of, point_name_reading, point_parts, point_reading, points_reading, body_of, behind_name, locals_reading, is_of_another, body_parts, body_reading}
 use Rattle.lc_object_text.specs.Rows.{cons, placed_reading}
 use Rattle.lc_object_text.specs.Sections.{parts_in}
@@ -31,6 +28,11 @@ use Rattle.lc_outline_text.specs.Bodies.{names_in, due_reading, ith_reading, bod
 use Rattle.lc_outline_text.specs.Declarations.{Declarations, known_of, own_ways}
 use Rattle.lc_outline_text.specs.Points.{beside}
 use Rattle.lc_outline_print.specs.Parts.{name_trees}
+use Rattle.lc_outline_print.specs.Specifications.{operation_tree}
+use Rattle.lc_outline_text.proofs.Agreed.{EachAfter, IsOperationRead, names_taken}
+use Rattle.lc_outline_text.specs.Developments.{signature_seen}
+use Rattle.lc_reading.specs.Rows.{second_name}
+use Rattle.lc_seq.specs.Specification.{Operation}
 use Rattle.lc_text_laws.proofs.Kin.{itself_fine}
 use Rattle.lc_text_laws.proofs.Names.{kth_stood, names_stood, due_stood}
 use Rattle.lc_text_laws.proofs.Rows.{limited_fine}
@@ -60,66 +62,34 @@ each_placed P read h i m (t ▸ ts) =
 
 -- ---- operations
 
--- a name that is declared does not occur before
-new_name : (before : List (List ℕ)) (n : ℕ) (w : List ℕ) → IfFine (declaration_reading None before n (atom w)) (λ u. list_any (is w) before ≡ false)
-new_name before n w =
-    cond_fine (λ u. list_any (is w) before ≡ false) (is_name w) _ (wrong Shape n) (at (is_reserved w || list_any (is w) before) refl) tt
-  where
-    at : (b : Bool) → (is_reserved w || list_any (is w) before) ≡ b → IfFine (cond b (wrong Repeated n) (within {X = Unit {0}} n w tt)) (λ u. list_any (is w) before ≡ false)
-    at true e = tt
-    at false e = cond_fine (λ u. list_any (is w) before ≡ false) (is_long w) _ (fine tt) tt (or_false_right (is_reserved w) (list_any (is w) before) e)
-
-kth_new : (names : List (List ℕ)) (k n : ℕ) (t : Tree) → IfFine (kth_name_reading names k n t) (λ w. (text_in t ≡ w) × (list_any (is w) (take k names) ≡ false))
-kth_new names k n (list ts) = tt
-kth_new names k n (atom w) =
-    mapped_fine (λ u. list_any (is w) (take k names) ≡ false) (λ v. (w ≡ v) × (list_any (is v) (take k names) ≡ false)) (λ u. w) (declaration_reading None (take k names) n (atom w)) (new_name (take k names) n w) (λ u e. (refl, e))
-
 -- NAME (ARG*) ..: the operation at this place
 pub record IsSigned (d : Declared) (i : ℕ) (ts : Trees) (s : Signature) : Type 0 where
   pub name : first_text ts ≡ s.name
   pub arguments : names_among (within_first (later ts)) ≡ s.arguments
   pub new : list_any (is s.name) (take i d.operations) ≡ false
 
-signed_parts : (d : Declared) (i n m : ℕ) (ts : Trees) → IfFine (signature_parts d i n m ts) (IsSigned d i ts)
-signed_parts d i n m none = tt
-signed_parts d i n m (t ▸ none) = tt
-signed_parts d i n m (t ▸ u ▸ none) = tt
-signed_parts d i n m (t ▸ u ▸ v ▸ ts) =
-    let arguments = (call_or (slice_get d.calls i)).arguments in
-    both_fine (λ w. (text_in t ≡ w) × (list_any (is w) (take i d.operations) ≡ false)) (λ c. names_among (items_within u) ≡ c.0) (IsSigned d i (t ▸ u ▸ v ▸ ts)) signature_of
-    (operation_name_reading d i n m t) (call_reading arguments (m + item_count t) u (m + item_count t + item_count u) v)
-    (limited_fine (λ w. (text_in t ≡ w) × (list_any (is w) (take i d.operations) ≡ false)) (nat_le operation_limit i) n (kth_name_reading d.operations i m t) (kth_new d.operations i m t))
-    (both_fine (λ ws. list (name_trees ws) ≡ u) (λ k. Unit {0}) (λ (c : List (List ℕ) × ℕ). names_among (items_within u) ≡ c.0) pair (names_reading 3 arguments 0 (m + item_count t) u) (replies_reading (m + item_count t + item_count u) v)
-    (names_stood 3 arguments 0 (m + item_count t) u) (if_fine_unit (replies_reading (m + item_count t + item_count u) v)) (λ ws k a b. names_within ws u a))
-    (λ w c a b. record { name = a.0; arguments = b; new = a.1 })
-
 abbrev pub IsOperation : Declared → ℕ → Tree → Signature → Type 0
-IsOperation d i t s = HasParts (IsSigned d i) (codes "op") (signature_parts d i) t s
+IsOperation d i t s = (ts : Trees) × (t ≡ list (atom (codes "op") ▸ ts)) × IsSigned d i ts s
 
-abbrev pub AreSigned : Declared → Trees → List Signature → Type 0
-AreSigned d ts ss = Each (IsOperation d) 0 ts ss
+-- operations that are printed, where all are declared and these are read before them
+pub operations_signed : (d : Declared) (columns before : List (List ℕ)) (i : ℕ) (os : List Operation) → length before ≡ i → d.operations ≡ before ++ map (λ (o : Operation). o.name) os
+    → EachAfter IsOperationRead second_name before (row (map (operation_tree columns) os)) os → Each (IsOperation d) i (row (map (operation_tree columns) os)) (map signature_seen os)
+operations_signed d columns before i [] count all h = tt
+operations_signed d columns before i (o ∷ os) count all h =
+    let names = map (λ (o : Operation). o.name) os in
+    let read : IsOperationRead before (operation_tree columns o) o = h.0 in
+    let taken : take i d.operations ≡ before = ap (take i) all ∙ names_taken before (o.name ∷ names) i count in (
+      (_, (refl, record { name = refl; arguments = among_names o.arguments; new = ap (list_any (is o.name)) taken ∙ read.new })),
+      operations_signed d columns (before ++ o.name ∷ []) (i + 1) os (omega (arith, length-append before (o.name ∷ []), count)) (all ∙ sym (append_assoc before (o.name ∷ []) names)) h.1,
+    )
 
--- the operations of a specification, at least one
-pub record HasOperations (d : Declared) (ts : Trees) (ss : List Signature) : Type 0 where
-  pub signed : AreSigned d ts ss
-  pub some : (ts ≡ none) → ⊥
+pub operation_forms : (columns : List (List ℕ)) (os : List Operation) → AreForms (codes "op") (row (map (operation_tree columns) os))
+operation_forms columns [] = tt
+operation_forms columns (o ∷ os) = ((_, refl), operation_forms columns os)
 
-signed_row : (d : Declared) (n m : ℕ) (ts : Trees) → IfFine (signatures_reading d n m ts) (HasOperations d ts)
-signed_row d n m none = tt
-signed_row d n m (t ▸ ts) =
-    if_fine_weaker (AreSigned d (t ▸ ts)) (HasOperations d (t ▸ ts)) (placed_reading (signature_reading d) 0 m (t ▸ ts)) (λ ss h. record { signed = h; some = λ e. absurd (let one : tree_count (t ▸ ts) ≡ tree_count none = ap tree_count e in cc) })
-    (each_placed (IsOperation d) (signature_reading d) (λ i n t. has_parts (IsSigned d i) (codes "op") (signature_parts d i) (signed_parts d i) n t) 0 m (t ▸ ts))
-
-specification_heads : (d : Declared) (n m : ℕ) (ts : Trees) → IfFine (specification_parts d n m ts) (λ (s : SpecificationText). HasOperations d (later (later ts)) s.signatures)
-specification_heads d n m none = tt
-specification_heads d n m (t ▸ none) = tt
-specification_heads d n m (t ▸ u ▸ ts) =
-    both_fine (λ ws. Unit {0}) (HasOperations d ts) (λ (s : SpecificationText). HasOperations d ts s.signatures) specification_of (abstracts_reading d m t (m + item_count t) u) _
-    (if_fine_unit (abstracts_reading d m t (m + item_count t) u)) (signed_row d n (m + item_count t + item_count u) ts) (λ ws ss a b. b)
-
--- (spec NAME (abstract ..) (op ..) ..)
-pub operations_read : (d : Declared) (n : ℕ) (t : Tree) → IfFine (specification_reading d n t) (HasParts (λ ts (s : SpecificationText). HasOperations d (later (later ts)) s.signatures) (codes "spec") (specification_parts d) t)
-operations_read d n t = has_parts (λ ts (s : SpecificationText). HasOperations d (later (later ts)) s.signatures) (codes "spec") (specification_parts d) (specification_heads d) n t
+pub names_printed : (columns : List (List ℕ)) (os : List Operation) → map first_text (parts_of_all (codes "op") (row (map (operation_tree columns) os))) ≡ map (λ (o : Operation). o.name) os
+names_printed columns [] = refl
+names_printed columns (o ∷ os) = ap (λ ws. o.name ∷ ws) (names_printed columns os)
 
 -- ---- points
 

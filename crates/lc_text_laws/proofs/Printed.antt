@@ -5,6 +5,7 @@ use Rattle.std.proofs.lemmas.List.{length-map}
 use Rattle.std.specs.Prelude.{codes, ◌&&◌, nat_le, nat_lt, option_map, slice_get, slice_index_or}
 use Rattle.lc_base.specs.declared.ids.ColId.{ColId}
 use Rattle.lc_base.specs.Limits.{depth_limit, condition_limit}
+use Rattle.lc_sexp.specs.Parts.{fits, form_fit}
 use Rattle.lc_sexp.specs.TreeCode.{tree_count}
 use Rattle.lc_sexp.specs.Trees.{Tree, Trees, atom, list, none, ◌▸◌, item_count, item_count_of_all, depth_of_all, row}
 use Rattle.lc_sexp.specs.Reads.{ReadsAs}
@@ -12,12 +13,14 @@ use Rattle.lc_sexp.proofs.Atoms.{read_atoms}
 use Rattle.lc_sexp.proofs.Items.{items_fit_lem}
 use Rattle.lc_sexp.proofs.PrintedLemmas.{printed_reads}
 use Rattle.lc_reading.proofs.Fine.{of_fine}
+use Rattle.lc_reading.proofs.Holding.{holds_of_fine}
 use Rattle.lc_reading.specs.Files.{Says}
 use Rattle.lc_reading.proofs.Words.{is-true}
 use Rattle.lc_reading.specs.Listed.{place_of}
 use Rattle.lc_reading.specs.Naming.{name_reading}
 use Rattle.lc_reading.specs.Readings.{Reading, fine, wrong, both, limited}
 use Rattle.lc_reading.specs.Reserved.{is_system_column}
+use Rattle.lc_reading.specs.Rows.{second_name}
 use Rattle.lc_reading.specs.Words.{is}
 use Rattle.lc_reading.specs.declared.pass.Pass.TheVariants.{Shape}
 use Rattle.lc_term.specs.Lists.{Every}
@@ -49,7 +52,7 @@ use Rattle.lc_rider_text.specs.Known.{Known}
 use Rattle.lc_rider_text.specs.Scopes.{variable_names, beside_names}
 use Rattle.lc_outline_text.specs.Bodies.{names_in, bodies_reading}
 use Rattle.lc_outline_text.specs.Declarations.{Declarations, known_of, own_ways}
-use Rattle.lc_outline_text.specs.Developments.{file_reading}
+use Rattle.lc_outline_text.specs.Developments.{signature_seen, text_seen, file_reading}
 use Rattle.lc_outline_text.specs.Points.{beside, formulas_in_reading}
 use Rattle.lc_outline_text.specs.Sides.{auxiliaries_reading, invariant_reading}
 use Rattle.lc_outline_text.specs.Sizes.{condition_count}
@@ -70,7 +73,7 @@ use Rattle.lc_text_laws.proofs.Arrays.{text_tree, arrays_stood, arrays_printed, 
 use Rattle.lc_text_laws.proofs.Counts.{IsKin, replaced, with_actions, parts_related, first_forms, arrays_found, actions_found, declarations_same, known_kin, counts_same}
 use Rattle.lc_text_laws.proofs.Formulas.{formula_again}
 use Rattle.lc_text_laws.proofs.Heads as H
-use Rattle.lc_text_laws.proofs.Heads.{Each, IsOperation, HasOperations, AreTexts}
+use Rattle.lc_text_laws.proofs.Heads.{Each, IsOperation, operations_signed, operation_forms, names_printed, AreTexts}
 use Rattle.lc_text_laws.proofs.Joined.{Fits, Rest, AreJoined, bodies_joined}
 use Rattle.lc_text_laws.proofs.Kin.{Pairwise, AreBehind, AllAgain, AllNamed, placed_trees, placed_as_row, placed_again}
 use Rattle.lc_text_laws.proofs.Points.{SameBody, body_variables, spelled_in, IsNamed, ith_tree, bodies_again}
@@ -78,11 +81,12 @@ use Rattle.lc_text_laws.proofs.Rows.{behind_place, IsRow, name_stood}
 use Rattle.lc_text_laws.proofs.Scopes.{placed_name, column_stood, beside_spelled, with_client_free, alone_free, beside_unbound}
 use Rattle.lc_text_laws.proofs.Sides.{conjunct_again}
 use Rattle.lc_text_laws.proofs.Specifications.{StandFirst, names_of, specification_stood}
-use Rattle.lc_text_laws.proofs.Splits.{AreForms, parts_of_all, some_forms}
+use Rattle.lc_text_laws.proofs.Splits.{parts_of_all, some_forms}
 use Rattle.lc_text_laws.proofs.Values.{Values, AreValues, development_made, made_of_values, both_parts, has_forms, has_values}
 use Rattle.lc_text_laws.proofs.Whole.{File, IsFormed, forms_of_file, sections_in_file, declared_in_file, object_at, arrays_at, auxiliaries_at, actions_at, invariant_at, idle_at, bodies_at, words_reading, parts_reading, file_reads}
 use Rattle.lc_cond.proofs.Sized.{every_at}
 use Rattle.lc_text.proofs.Printed.{same_refl}
+use Rattle.lc_outline_text.proofs.Agreed.{EachAfter, IsOperationRead, IsSpecificationSaid, specification_said}
 use Rattle.lc_outline_text.proofs.LimitsHold.{limited_parts}
 
 -- ---- rows
@@ -109,15 +113,9 @@ all_named : {X : Type 0} (N : X → Type 0) (xs : List X) → Every N xs → All
 all_named N [] h = tt
 all_named N (x ∷ xs) h = (h.0, all_named N xs h.1)
 
-due_count : (ts : Trees) → ((ts ≡ none) → ⊥) → bodies_due (tree_count ts) ≡ tree_count ts
-due_count none some = absurd (some refl)
+due_count : (ts : Trees) → 1 ≤ tree_count ts → bodies_due (tree_count ts) ≡ tree_count ts
+due_count none some = absurd (omega (arith, some))
 due_count (t ▸ ts) some = refl
-
-signed_forms : (d : Declarations) (i : ℕ) (ts : Trees) (ss : List OT.Signature) → Each (IsOperation d.declared) i ts ss → AreForms (codes "op") ts
-signed_forms d i none [] h = tt
-signed_forms d i none (s ∷ ss) h = absurd h
-signed_forms d i (t ▸ ts) [] h = absurd h
-signed_forms d i (t ▸ ts) (s ∷ ss) h = ((h.0.0, h.0.1), signed_forms d (i + 1) ts ss h.1)
 
 -- ---- the variables of a body's code
 
@@ -193,7 +191,7 @@ module _ (x : File) (formed : IsFormed x) (v : Values) (are : AreValues (declare
   concretes_are = ap columns_of_arrays forms_are ∙ columns_are v.arrays
 
   array_names : d.declared.arrays ≡ map (λ (a : O.Array). a.name) D.object.arrays
-  array_names = ap (map first_text) forms_are ∙ array_names_are (length v.text.abstracts) v.arrays
+  array_names = ap (map first_text) forms_are ∙ array_names_are (length (text_seen v.specification).abstracts) v.arrays
 
   auxiliaries_are : auxiliary_tree D ≡ x.auxiliaries
   auxiliaries_are =
@@ -282,14 +280,28 @@ module _ (x : File) (formed : IsFormed x) (v : Values) (are : AreValues (declare
   abbrev op_trees : Trees
   op_trees = row (map (operation_tree columns) v.specification.operations)
 
-  signed : HasOperations d.declared op_trees v.text.signatures
-  signed =
-      let h = of_fine _ (OT.specification_reading d.declared 0 x.spec) v.text (H.operations_read d.declared 0 x.spec) are.text in
-      subst (λ ts. HasOperations d.declared ts v.text.signatures) (ap (λ t. later (later (parts_in (codes "spec") t))) (sym h.1 ∙ sym spec_is)) h.2
+  read : IsSpecificationSaid (parts_in (codes "spec") x.spec) v.specification
+  read =
+      (holds_of_fine (λ q. (form_fit (codes "spec") x.spec ≡ fits (parts_in (codes "spec") x.spec)) × IsSpecificationSaid (parts_in (codes "spec") x.spec) q) (QT.specification_reading d.declared.columns 0 x.spec) v.specification
+      (specification_said d.declared.columns 0 x.spec) are.specification).1
+
+  ops_behind : later (later (parts_in (codes "spec") x.spec)) ≡ op_trees
+  ops_behind = ap (λ t. later (later (parts_in (codes "spec") t))) (sym spec_is)
+
+  some : 1 ≤ tree_count op_trees
+  some = subst (λ ts. 1 ≤ tree_count ts) ops_behind read.some
 
   operations_are : operations_in (sections_in_file x) ≡ parts_of_all (codes "op") op_trees
   operations_are =
-      ap (λ t. some_forms_in (codes "op") (behind_first (behind_first (items_in (codes "spec") 0 t))).trees) (sym spec_is) ∙ some_forms (codes "op") op_trees (signed_forms d 0 op_trees v.text.signatures signed.signed)
+      ap (λ t. some_forms_in (codes "op") (behind_first (behind_first (items_in (codes "spec") 0 t))).trees) (sym spec_is) ∙ some_forms (codes "op") op_trees (operation_forms columns v.specification.operations)
+
+  abbrev signatures : List OT.Signature
+  signatures = map signature_seen v.specification.operations
+
+  signed : Each (IsOperation d.declared) 0 op_trees signatures
+  signed =
+      operations_signed d.declared columns [] 0 v.specification.operations refl (ap (map first_text) operations_are ∙ names_printed columns v.specification.operations)
+      (subst (λ ts. EachAfter IsOperationRead second_name [] ts v.specification.operations) ops_behind read.operations)
 
   texts : AreTexts d x.bodies v.bodies
   texts = of_fine (AreTexts d x.bodies) (bodies_reading d (object_at x) (bodies_at x) x.bodies) v.bodies (H.bodies_read d (object_at x) (bodies_at x) x.bodies) are.bodies
@@ -298,7 +310,7 @@ module _ (x : File) (formed : IsFormed x) (v : Values) (are : AreValues (declare
   due = bodies_due (length (operations_in (sections_in_file x)))
 
   due_is : due ≡ tree_count op_trees
-  due_is = ap bodies_due (ap length operations_are ∙ counted_parts (codes "op") op_trees) ∙ due_count op_trees signed.some
+  due_is = ap bodies_due (ap length operations_are ∙ counted_parts (codes "op") op_trees) ∙ due_count op_trees some
 
   enough : due ≤ tree_count x.bodies
   enough =
@@ -325,8 +337,8 @@ module _ (x : File) (formed : IsFormed x) (v : Values) (are : AreValues (declare
     earlier = tt;
   }
 
-  joined : AreJoined d D 0 0 op_trees d.declared.bodies v.text.signatures v.bodies
-  joined = bodies_joined d D 0 0 due op_trees x.bodies v.text.signatures v.bodies all_bodies due_is enough signed.signed texts.each free.variables
+  joined : AreJoined d D 0 0 op_trees d.declared.bodies signatures v.bodies
+  joined = bodies_joined d D 0 0 due op_trees x.bodies signatures v.bodies all_bodies due_is enough signed texts.each free.variables
 
   operation_names : d.declared.operations ≡ map (λ (o : O.Operation). o.name) D.object.operations
   operation_names = ap (map first_text) operations_are ∙ sym joined.names
@@ -478,7 +490,6 @@ module _ (x : File) (formed : IsFormed x) (v : Values) (are : AreValues (declare
 
   values_again : AreValues e y v
   values_again = record {
-    text = are.text;
     specification = are.specification;
     name = are.name;
     arrays = are.arrays;

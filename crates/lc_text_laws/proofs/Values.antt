@@ -19,7 +19,7 @@ use Rattle.lc_tie.specs.Tie.{Conjunct}
 use Rattle.lc_object.specs.Syntax.{Point}
 use Rattle.lc_outline.specs.Development.{Outline, Development}
 use Rattle.lc_object_text.specs.Objects as O
-use Rattle.lc_object_text.specs.Objects.{ArrayText, SpecificationText, array_reading, first_reading}
+use Rattle.lc_object_text.specs.Objects.{ArrayText, array_reading, first_reading}
 use Rattle.lc_object_text.specs.Points.{BodyText}
 use Rattle.lc_object_text.specs.Rows.{placed_reading}
 use Rattle.lc_object_text.specs.Sections.{Items, Sections, behind_first, behind_lists, behind_forms, items_of_fit, items_in, sections_of}
@@ -183,7 +183,6 @@ has_forms ts D e =
 -- ---- what the parts read as
 
 pub record Values : Type 0 where
-  pub text : SpecificationText
   pub specification : Specification
   pub name : List ℕ
   pub arrays : List ArrayText
@@ -195,7 +194,6 @@ pub record Values : Type 0 where
   pub bodies : List (BodyText (Point × Outline))
 
 pub record AreValues (d : Declarations) (x : File) (v : Values) : Type 0 where
-  pub text : O.specification_reading d.declared 0 x.spec ≡ fine v.text
   pub specification : Q.specification_reading d.declared.columns 0 x.spec ≡ fine v.specification
   pub name : name_reading None [] (object_at x + 2) x.name ≡ fine v.name
   pub arrays : placed_reading (array_reading d.declared) 0 (arrays_at x) x.arrays ≡ fine v.arrays
@@ -211,12 +209,12 @@ abbrev pub object_of_values : Values → Parts
 object_of_values v = ((O.tables_of (v.name, v.arrays) v.names, sides_of (v.auxiliaries, v.actions) (v.conjuncts, v.idle)), v.bodies)
 
 abbrev pub development_made : Values → Development
-development_made v = development_of (v.text, v.specification) (object_of_values v)
+development_made v = development_of v.specification (object_of_values v)
 
 -- values that are read make the development
 pub made_of_values : (d : Declarations) (x : File) (v : Values) → AreValues d x v → parts_reading d x ≡ fine (development_made v)
 made_of_values d x v a =
-    ap₂ (both development_of) (ap₂ (both pair) a.text a.specification)
+    ap₂ (both development_of) a.specification
     (ap₂ (both pair)
     (ap₂ (both pair) (ap₂ (both O.tables_of) (ap₂ (both pair) a.name a.arrays) a.words) (ap₂ (both sides_of) (ap₂ (both pair) a.auxiliaries a.actions) (ap₂ (both pair) a.conjuncts a.idle)))
     a.bodies)
@@ -229,7 +227,6 @@ pub record HasValues (d : Declarations) (x : File) (D : Development) : Type 0 wh
 pub has_values : (d : Declarations) (x : File) (D : Development) → parts_reading d x ≡ fine D → HasValues d x D
 has_values d x D e =
     let whole = both_parts development_of (specification_reading d 0 x.spec) (object_by (named_reading d x) (words_reading d x) (acting_reading d x) (holding_reading d x) (bodies_read d x)) D e in
-    let spec = both_parts pair (O.specification_reading d.declared 0 x.spec) (Q.specification_reading d.declared.columns 0 x.spec) whole.first whole.first_is in
     let object = both_parts pair (both pair (both O.tables_of (named_reading d x) (words_reading d x)) (both sides_of (acting_reading d x) (holding_reading d x))) (bodies_read d x) whole.second whole.second_is in
     let tables = both_parts pair (both O.tables_of (named_reading d x) (words_reading d x)) (both sides_of (acting_reading d x) (holding_reading d x)) object.first object.first_is in
     let own = both_parts O.tables_of (named_reading d x) (words_reading d x) tables.first tables.first_is in
@@ -239,8 +236,7 @@ has_values d x D e =
     let holding = both_parts pair (invariant_reading d (invariant_at x) x.invariant) (formulas_in_reading (codes "idle") (beside_names d.declared.columns (Some [])) (idle_at x) x.idle) sides.second sides.second_is in
     record {
       values = record {
-        text = spec.first;
-        specification = spec.second;
+        specification = whole.first;
         name = named.first;
         arrays = named.second;
         names = own.second;
@@ -251,8 +247,7 @@ has_values d x D e =
         bodies = object.second;
       };
       are = record {
-        text = spec.first_is;
-        specification = spec.second_is;
+        specification = whole.first_is;
         name = named.first_is;
         arrays = named.second_is;
         words = own.second_is;
@@ -263,7 +258,7 @@ has_values d x D e =
         bodies = object.second_is;
       };
       made =
-          ap₂ development_of spec.made
+          ap (development_of whole.first)
           (ap₂ (λ a b. (a, b))
           (ap₂ (λ a b. (a, b)) (ap (λ p. O.tables_of p own.second) named.made ∙ own.made) (ap₂ sides_of acting.made holding.made ∙ sides.made) ∙ tables.made)
           refl ∙ object.made) ∙ whole.made;

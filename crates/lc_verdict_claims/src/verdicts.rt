@@ -17,10 +17,7 @@ ghost use Rattle.lc_sound.specs.Linearizable.{IsLinearizableObject};
 ghost use Rattle.lc_table.specs.Tables.{Keeps};
 
 use lc_base::{Fault, OutOfMemory};
-use lc_check::{
-    Alone, CertificateSession, Prover, Verdict, Walk, check, check_certificate, prove_one,
-    proven_count,
-};
+use lc_check::{Alone, CertificateSession, Prover, Verdict, Walk, check, prove_one, proven_count};
 use lc_cond::Condition;
 use lc_kernel::Proof;
 use lc_outline::Development;
@@ -33,18 +30,6 @@ pub fn checking(alloc: Global, dev: &[u8], cert: &[u8]) -> Result<Verdict, OutOf
     ensures linearizable { IfAccepted result (λ D. Says file_reading dev.now D × IsLinearizableObject D.specification D.object) }
 {
     check(alloc, dev, cert)
-}
-
-/// A development that was read and a certificate file have exactly one verdict, and the object of what is accepted is linearizable.
-pub fn checking_a_certificate(
-    alloc: Global,
-    development: Development,
-    cert: &[u8],
-) -> Result<Verdict, OutOfMemory>
-    ensures exactly { IfOk result (IsVerdictOn (development_view development) cert.now) }
-    ensures linearizable { IfAccepted result (λ D. IsLinearizableObject D.specification D.object) }
-{
-    check_certificate(alloc, development, cert)
 }
 
 /// For a certificate file, the number of conditions that it proves is returned, or its first refusal.

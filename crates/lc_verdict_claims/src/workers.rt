@@ -30,7 +30,7 @@ pub fn checking_by_workers<R: Threads + Wait + Sync, G: Gate + Sync>(
     check_with(rt, alloc, dev, cert, workers, gate)
 }
 
-/// A development that was read and a certificate file have the verdict of `check_certificate`, by any number of workers.
+/// A development that was read and a certificate file have the verdict of a session, by any number of workers.
 pub fn checking_a_certificate_by_workers<R: Threads + Wait + Sync, G: Gate + Sync>(
     rt: &R,
     alloc: Global,

@@ -1,27 +1,21 @@
-//! Prints the verdicts of many workers. What has to be printed was worked out by hand.
+//! The verdicts of many workers. What has to be printed was worked out by hand.
 //!
 //! A line of the file `files` has a development and a certificate, with a space between them. What is printed of it is the line, then
 //! the verdict by 1 worker, by 2, by 7, and by 64.
 //!
 //! A line of the file `side_by_side` has the same. What is printed of it is the line, then the verdict by 2 workers under a gate that
 //! holds each of conditions 0 and 1 until the other is begun, and whether that came about.
-//!
-//! Given the words DEV CERT WORKERS, it prints the verdict on these files by WORKERS workers, and nothing else.
-#![tactic(auto)]
-
-mod meeting;
-
+use crate::meeting::Meeting;
 use anyhow::Context;
 use lc_check::Verdict;
 use lc_pool::{NoGate, check_with};
-use meeting::Meeting;
+use std::fs;
 use std::rt::Files;
 use std::sync::Wait;
 use std::thread::Threads;
-use std::{env, fs};
 
 /// Prints a verdict.
-fn print_verdict<R: Print>(rt: &R, verdict: &Verdict) -> anyhow::Result<()> {
+pub fn print_verdict<R: Print>(rt: &R, verdict: &Verdict) -> anyhow::Result<()> {
     match verdict {
         Verdict::Accepted(accepted) => {
             println!(rt; "accepted {} {}", accepted.name(), accepted.count())?;
@@ -84,7 +78,8 @@ fn check_side_by_side<R: Files + Print + AllocGlobal + Threads + Wait + Sync>(
     Ok(())
 }
 
-fn check_lines<R: Files + Print + AllocGlobal + Threads + Wait + Sync>(
+/// Checks the files of all lines.
+pub fn check_lines<R: Files + Print + AllocGlobal + Threads + Wait + Sync>(
     rt: &R,
 ) -> anyhow::Result<()> {
     let lines = fs::read_to_string(rt, "files")?;
@@ -98,21 +93,15 @@ fn check_lines<R: Files + Print + AllocGlobal + Threads + Wait + Sync>(
     Ok(())
 }
 
-/// Checks the files that the words name.
-fn check_words<R: Files + Print + AllocGlobal + Threads + Wait + Sync>(
+/// Prints the verdict on the two files of these names, by as many workers as are said.
+pub fn check_files<R: Files + Print + AllocGlobal + Threads + Wait + Sync>(
     rt: &R,
-    words: &[String],
+    development: &str,
+    certificate: &str,
+    workers: &str,
 ) -> anyhow::Result<()> {
-    let [_, development, certificate, workers] = words else {
-        return check_lines(rt);
-    };
     let workers = workers.parse().context("WORKERS is a number")?;
-    let dev = fs::read(rt, development.as_str())?;
-    let cert = fs::read(rt, certificate.as_str())?;
+    let dev = fs::read(rt, development)?;
+    let cert = fs::read(rt, certificate)?;
     check_by(rt, &dev, &cert, workers)
-}
-
-fn main(rt: HostRuntime) -> anyhow::Result<()> {
-    let words: Vec<String> = env::args(&rt)?.collect(rt.alloc())?;
-    check_words(&rt, words.as_slice())
 }

@@ -1,13 +1,8 @@
-//! Makes calls on a counter, and makes a call once more if it returns `OutOfMemory`. So with any one allocation of a call refused,
+//! Calls on a counter, each made once more if it returns `OutOfMemory`. So with any one allocation of a call refused,
 //! what is printed is what is printed with ample memory, which `stress/refused-commands --calls` shows, refusing each in turn. What a call
 //! is made on is made before its word is printed, so the allocations of the call are those after the word.
-//!
-//! Given the word of a call, it makes that one alone: `check`, `pieces`, `workers`, `find`, `judge`, `history`, `plan`, `steps` or
-//! `finish`.
-#![tactic(auto)]
-
-mod running;
-
+use crate::running::{print_finish, print_steps};
+use crate::workers::print_verdict;
 use anyhow::bail;
 use lc_base::{Fault, OutOfMemory};
 use lc_cert::certificate_text;
@@ -22,12 +17,11 @@ use lc_plan::plan_of;
 use lc_pool::{NoGate, check_with};
 use lc_seq::TextSpec;
 use lc_spec_text::spec_of;
-use running::{print_finish, print_steps};
 use std::alloc::Global;
+use std::fs;
 use std::rt::Files;
 use std::sync::{Arc, Wait};
 use std::thread::Threads;
-use std::{env, fs};
 
 /// The bytes of a certificate that are fed at a time.
 const PIECE: usize = 100;
@@ -38,7 +32,7 @@ const BUDGET: u64 = 1_000_000;
 const PLAN: &str = "(plan 2 (phase (0 (call inc) (times 3 (call get))) (1 (upto 9 inc))))";
 
 /// The files that the calls are made on.
-struct Texts {
+pub struct Texts {
     development: Vec<u8>,
     certificate: Vec<u8>,
     history: Vec<u8>,
@@ -84,7 +78,7 @@ fn verdict_by<R: AllocGlobal + Threads + Wait + Sync>(
 }
 
 /// Prints the verdict on the development and its certificate.
-fn print_verdict<R: Print + AllocGlobal + Threads + Wait + Sync>(
+fn print_verdict_by<R: Print + AllocGlobal + Threads + Wait + Sync>(
     rt: &R,
     word: &str,
     checker: Checker,
@@ -95,13 +89,7 @@ fn print_verdict<R: Print + AllocGlobal + Threads + Wait + Sync>(
         Err(OutOfMemory) => verdict_by(rt, checker, texts)?,
         Ok(verdict) => verdict,
     };
-    match verdict {
-        Verdict::Accepted(accepted) => {
-            println!(rt; "accepted {} {}", accepted.name(), accepted.count())?;
-        }
-        Verdict::Refused(refusal) => println!(rt; "{refusal}")?,
-    }
-    Ok(())
+    print_verdict(rt, &verdict)
 }
 
 /// The text of a certificate that is found.
@@ -193,15 +181,15 @@ fn accepted(alloc: Global, texts: &Texts) -> anyhow::Result<Arc<Accepted>> {
 }
 
 /// Makes the call of a word.
-fn make_call<R: Print + AllocGlobal + Threads + Wait + Sync>(
+pub fn make_call<R: Print + AllocGlobal + Threads + Wait + Sync>(
     rt: &R,
     word: &str,
     texts: &Texts,
 ) -> anyhow::Result<()> {
     match word {
-        "check" => print_verdict(rt, word, Checker::Whole, texts),
-        "pieces" => print_verdict(rt, word, Checker::InPieces, texts),
-        "workers" => print_verdict(rt, word, Checker::TwoWorkers, texts),
+        "check" => print_verdict_by(rt, word, Checker::Whole, texts),
+        "pieces" => print_verdict_by(rt, word, Checker::InPieces, texts),
+        "workers" => print_verdict_by(rt, word, Checker::TwoWorkers, texts),
         "find" => print_found(rt, texts),
         "judge" => print_judgement(rt, texts),
         "history" => print_history(rt, texts),
@@ -212,7 +200,7 @@ fn make_call<R: Print + AllocGlobal + Threads + Wait + Sync>(
     }
 }
 
-fn read_texts<R: Files + AllocGlobal>(rt: &R) -> anyhow::Result<Texts> {
+pub fn read_texts<R: Files + AllocGlobal>(rt: &R) -> anyhow::Result<Texts> {
     Ok(Texts {
         development: fs::read(rt, "counter.lc")?,
         certificate: fs::read(rt, "counter.cert")?,
@@ -220,16 +208,15 @@ fn read_texts<R: Files + AllocGlobal>(rt: &R) -> anyhow::Result<Texts> {
     })
 }
 
-fn main(rt: HostRuntime) -> anyhow::Result<()> {
-    let texts = read_texts(&rt)?;
-    let words: Vec<String> = env::args(&rt)?.collect(rt.alloc())?;
-    if let [_, word] = words.as_slice() {
-        return make_call(&rt, word, &texts);
-    }
+/// Makes each call.
+pub fn make_calls<R: Print + AllocGlobal + Threads + Wait + Sync>(
+    rt: &R,
+    texts: &Texts,
+) -> anyhow::Result<()> {
     for word in [
         "check", "pieces", "workers", "find", "judge", "history", "plan", "steps", "finish",
     ] {
-        make_call(&rt, word, &texts)?;
+        make_call(rt, word, texts)?;
     }
     Ok(())
 }
