@@ -172,8 +172,9 @@ operation_read : (columns : Columns) (before : List (List ℕ)) (n : ℕ) (t : T
 operation_read columns before n t =
     let r = operation_reading columns before n t in
     let named = λ (q : Operation). (list_any (is q.name) before ≡ false) × (second_name t ≡ q.name ∷ []) in
-    holds_weaker (λ q. IsOperationSaid 0 t q × (length before < operation_limit) × named q) (IsOperationRead before t) r (λ q h. record { said = h.0; below = h.1.0; new = h.1.1.0; name = h.1.1.1 })
-    (and_holds (IsOperationSaid 0 t) (λ q. (length before < operation_limit) × named q) r (operation_said columns before n t)
+    let rest = λ (q : Operation). (length before < operation_limit) × named q in
+    holds_weaker (λ q. IsOperationSaid 0 t q × rest q) (IsOperationRead before t) r (λ q h. record { said = h.0; below = h.1.0; new = h.1.1.0; name = h.1.1.1 })
+    (and_holds (IsOperationSaid 0 t) rest r (operation_said columns before n t)
     (and_holds (λ q. length before < operation_limit) named r (limited_below operation_limit (length before) n _) (operation_names columns before n t)))
 
 pub operations_are_said : (before : List (List ℕ)) (i : ℕ) (ts : Trees) (qs : List Operation) → EachAfter IsOperationRead second_name before ts qs → Each IsOperationSaid i ts qs

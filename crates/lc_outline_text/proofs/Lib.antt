@@ -1,4 +1,4 @@
-mod Agreed
+pub mod Agreed
 mod ArraysCounted
 pub mod Assembled
 mod BodiesCounted

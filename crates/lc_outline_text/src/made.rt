@@ -1,6 +1,6 @@
 //! The development of what was read.
 ghost use Rattle.std.specs.Prelude.{◌≡◌, ◌++◌, true, map, IfOk};
-ghost use Rattle.lc_object.specs.View.{point_of, column_view};
+ghost use Rattle.lc_object.specs.View.{names_of, point_of, column_view};
 ghost use Rattle.lc_object.specs.WellFormed.{is_object};
 ghost use Rattle.lc_object_text.specs.Texts.{body_texts_view, signature_view, specification_view};
 ghost use Rattle.lc_outline.specs.Development.{start_numbers};
@@ -12,7 +12,7 @@ ghost use Rattle.lc_outline_text.specs.Developments.{code_of, outlines_of, signa
 ghost use Rattle.lc_outline_text.specs.Views.{outlined_of, bodies_outlined, object_parts_view, declared_numbers};
 
 use crate::sides::Sides;
-use lc_base::OutOfMemory;
+use lc_base::{Name, OutOfMemory};
 use lc_object::{Column as Concrete, Object, Point};
 use lc_object_text::{BodyText, Signature, SpecificationText, Tables, made_parts};
 use lc_outline::{Outline, Parts};
@@ -92,20 +92,35 @@ fn signature_seen(alloc: Global, operation: &Operation) -> Result<Signature, Out
     })
 }
 
+/// The names of columns.
+fn names_of_columns(alloc: Global, columns: &[Column]) -> Result<Vec<Name>, OutOfMemory>
+    ensures { IfOk result (λ names. names_of names.items ≡ map (λ c. c.name) (map column_of columns.now)) }
+{
+    let mut names = Vec::with_capacity(alloc, columns.len())?;
+    for column in columns {
+        names.push(column.name)?;
+    }
+    Ok(names)
+}
+
+/// What its object's code sees of each operation.
+fn signatures_seen(alloc: Global, operations: &[Operation]) -> Result<Vec<Signature>, OutOfMemory>
+    ensures { IfOk result (λ signatures. map signature_view signatures.items ≡ map signature_seen (map operation_of operations.now)) }
+{
+    let mut signatures = Vec::with_capacity(alloc, operations.len())?;
+    for operation in operations {
+        let signature = signature_seen(alloc, operation)?;
+        signatures.push(signature)?;
+    }
+    Ok(signatures)
+}
+
 /// What its object's code sees of a specification.
 fn text_seen(alloc: Global, specification: &TextSpec) -> Result<SpecificationText, OutOfMemory>
     ensures { IfOk result (λ text. specification_view text ≡ text_seen (specification_of specification.now)) }
 {
-    let columns = specification.columns();
-    let mut abstracts = Vec::with_capacity(alloc, columns.len())?;
-    for column in columns {
-        abstracts.push(column.name)?;
-    }
-    let operations = specification.operations();
-    let mut signatures = Vec::with_capacity(alloc, operations.len())?;
-    for operation in operations {
-        signatures.push(signature_seen(alloc, operation)?)?;
-    }
+    let abstracts = names_of_columns(alloc, specification.columns())?;
+    let signatures = signatures_seen(alloc, specification.operations())?;
     Ok(SpecificationText {
         abstracts,
         signatures,

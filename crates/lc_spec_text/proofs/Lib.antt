@@ -3,7 +3,7 @@ mod Parts
 mod Places
 mod Behind
 mod Apart
-mod Named
+pub mod Named
 pub mod Resolved
 pub mod Ways
 mod Placed
