@@ -1,4 +1,5 @@
 mod Unfinished
 mod Scripts
+mod Turns
 mod Ends
 mod Crossing

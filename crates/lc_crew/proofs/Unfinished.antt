@@ -12,12 +12,12 @@ use Rattle.lc_crew.specs.Playing.{HasReturned, HaveReturned, HasMadeOne, halt_be
 use Rattle.lc_crew.specs.declared.halt.Halt.{Halt}
 
 -- no call is unfinished after one that returned
-returned-fits : (turns : ℕ) (call : Event) (c : ℕ) (before after : List Label) → HasReturned turns call c before after → is_unfinished after ≡ false
+pub returned-fits : (turns : ℕ) (call : Event) (c : ℕ) (before after : List Label) → HasReturned turns call c before after → is_unfinished after ≡ false
 returned-fits turns call c before after (numbers, (begun, k, last, first, moved, fewer, reply)) =
     ap is_unfinished reply.grown ∙ (last-goes last reply.label ∙ ap goes_on reply.what)
 
 -- a call whose turns are spent is
-spent-fits : (turns op : ℕ) (ns : List ℤ) (c : ℕ) (before after : List Label) → IsCalled called.TurnsSpent turns (Invoked op ns) c before after → is_unfinished after ≡ true
+pub spent-fits : (turns op : ℕ) (ns : List ℤ) (c : ℕ) (before after : List Label) → IsCalled called.TurnsSpent turns (Invoked op ns) c before after → is_unfinished after ≡ true
 spent-fits turns op ns c before after (begun, first, moved) =
     ap is_unfinished moved.grown ∙ moves-go c begun moved.moves (ap is_unfinished first.grown ∙ (last-goes before first.label ∙ ap goes_on first.what)) moved.each
 
@@ -28,7 +28,7 @@ called-made (called.Returned numbers) turns op ns c before after is = ((numbers,
 called-made called.TurnsSpent turns op ns c before after is = (is, spent-fits turns op ns c before after is)
 
 -- a client that is not halted is in no call
-in-none : (unfinished : Bool) → fits None unfinished ≡ true → unfinished ≡ false
+pub in-none : (unfinished : Bool) → fits None unfinished ≡ true → unfinished ≡ false
 in-none true e = absurd cc
 in-none false e = refl
 

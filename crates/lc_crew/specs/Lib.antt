@@ -3,3 +3,4 @@ pub mod Playing
 pub mod Members
 pub mod Phases
 pub mod Ran
+pub mod Turns

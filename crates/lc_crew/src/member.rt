@@ -24,8 +24,8 @@ pub struct Member<J: Ledger> {
     ghost fit: { fits halt (is_unfinished (labels_made seat)) ≡ true },
 }
 
-// Why a client makes no further call after this fault of one; or why there is nothing to hand out.
-fn halt_at(fault: RunFault) -> Result<Halt, Stop>
+/// Why a client makes no further call after this fault of one; or why there is nothing to hand out.
+pub(crate) fn halt_at(fault: RunFault) -> Result<Halt, Stop>
     ensures { IfOk result (λ halt. IsHaltAt fault halt) }
 {
     match fault {
@@ -110,9 +110,11 @@ fn play<J: Ledger, R: Wait>(
 }
 
 impl<J: Ledger> Member<J> {
-    ghost use Rattle.std.specs.Prelude.{◌≡◌, [], None, IfOk, map};
+    ghost use Rattle.std.specs.Prelude.{◌≡◌, [], true, None, IfOk, map};
     ghost use Rattle.lc_plan.specs.View.{script_of};
+    ghost use Rattle.lc_run.specs.Labels.{is_unfinished};
     ghost use Rattle.lc_run.specs.Locked.{client_in, labels_made};
+    ghost use Rattle.lc_crew.specs.Halts.{fits};
     ghost use Rattle.lc_crew.specs.Members.{Plays, client_of, halt_of, made_by};
     ghost use Rattle.lc_crew.specs.Playing.{calls_in};
 
@@ -124,6 +126,16 @@ impl<J: Ledger> Member<J> {
         ensures made { made_by result ≡ [] }
     {
         Member { seat, halt: None }
+    }
+
+    /// The client of a seat that makes no further call for this reason, if there is one.
+    pub(crate) fn halted(seat: Seat<J>, halt: Option<Halt>) -> Member<J>
+        requires { fits halt (is_unfinished (labels_made seat)) ≡ true }
+        ensures client { client_of result ≡ client_in seat }
+        ensures halt { halt_of result ≡ halt }
+        ensures made { made_by result ≡ labels_made seat }
+    {
+        Member { seat, halt }
     }
 
     /// Which client it is.

@@ -9,6 +9,7 @@ ghost use Rattle.lc_run.specs.Running.{clients_of, development_of};
 ghost use Rattle.lc_crew.specs.Members.{AreEndsOf, HasMadeAll, HasMadeAllIf};
 ghost use Rattle.lc_crew.specs.Ran.{AreAllEnded, IsRunOf};
 
+use crate::drawn::play_drawn;
 use crate::ended::Ended;
 use crate::member::Member;
 use crate::phase::play_phase;
@@ -16,6 +17,7 @@ use crate::stop::Stop;
 use lc_base::SEAT_LIMIT;
 use lc_check::Accepted;
 use lc_plan::Plan;
+use lc_random::SplitMix64;
 use lc_run::{RunFault, RunLog, Runner, Seat};
 use std::alloc::Global;
 use std::marker::Brand;
@@ -120,6 +122,29 @@ fn finished<J: Ledger>(
     }
 }
 
+// A runner for the clients of a plan, which have made nothing.
+fn started<J: Ledger>(
+    alloc: Global,
+    blank: Blank,
+    accepted: Arc<Accepted>,
+    plan: &Plan,
+) -> Result<(Runner<J>, Vec<Member<J>>), Stop>
+    requires name { blank.name ≡ J.name }
+    requires parts { (blank.parts ≡ J.parts) × (blank.parts ≡ seat_limit) }
+    ensures development { IfOk result (λ r. development_of r.0 ≡ development_in (arc_value accepted)) }
+    ensures clients { IfOk result (λ r. clients_of r.0 ≡ plan.now.clients) }
+    ensures crew { IfOk result (λ r. All (HasMadeAll []) r.1.items) }
+{
+    let made: Result<(Runner<J>, Vec<Seat<J>>), RunFault> = Runner::new(
+        alloc,
+        blank,
+        accepted,
+        plan.clients,
+    );
+    let (runner, seats) = made?;
+    Ok((runner, crew_of(alloc, seats)?))
+}
+
 /// Runs an accepted development by a plan, with this ledger: the phases come one after another, and in each its clients make their
 /// calls side by side, in threads. What has run has an order that linearizes its history.
 pub fn run_with<J: Ledger + Sync, R: Threads + Wait + Sync>(
@@ -133,14 +158,7 @@ pub fn run_with<J: Ledger + Sync, R: Threads + Wait + Sync>(
     requires parts { (blank.parts ≡ J.parts) × (blank.parts ≡ seat_limit) }
     ensures { IfOk result (IsRunOf (development_in (arc_value accepted)) plan.now.clients (plan_of plan.now).phases) }
 {
-    let made: Result<(Runner<J>, Vec<Seat<J>>), RunFault> = Runner::new(
-        alloc,
-        blank,
-        accepted,
-        plan.clients,
-    );
-    let (runner, seats) = made?;
-    let mut crew = crew_of(alloc, seats)?;
+    let (runner, mut crew) = started::<J>(alloc, blank, accepted, plan)?;
     for number in 0..plan.phases.len() {
         crew = play_phase(rt, alloc, &runner, crew, plan, number)?;
     }
@@ -157,4 +175,47 @@ pub fn run<R: Threads + Wait + Sync>(
     ensures { IfOk result (IsRunOf (development_in (arc_value accepted)) plan.now.clients (plan_of plan.now).phases) }
 {
     run_with::<Brand, R>(rt, alloc, Blank::new(u64::from(SEAT_LIMIT)), accepted, plan)
+}
+
+/// Runs an accepted development by a plan, with this ledger, in one thread: the phases come one after another, and in each one turn of
+/// one client at a time, which is drawn from the seed among those that make a further call in it. So what runs depends on the
+/// development, the plan and the seed alone.
+pub fn run_drawn_with<J: Ledger, R: Wait>(
+    rt: &R,
+    alloc: Global,
+    blank: Blank,
+    accepted: Arc<Accepted>,
+    plan: &Plan,
+    seed: u64,
+) -> Result<Ran, Stop>
+    requires name { blank.name ≡ J.name }
+    requires parts { (blank.parts ≡ J.parts) × (blank.parts ≡ seat_limit) }
+    ensures { IfOk result (IsRunOf (development_in (arc_value accepted)) plan.now.clients (plan_of plan.now).phases) }
+{
+    let (runner, mut crew) = started::<J>(alloc, blank, accepted, plan)?;
+    let mut random = SplitMix64::new(seed);
+    for number in 0..plan.phases.len() {
+        crew = play_drawn(rt, alloc, &runner, crew, plan, number, &mut random)?;
+    }
+    finished(alloc, runner, crew, plan)
+}
+
+/// Runs an accepted development by a plan and a seed, as `run_drawn_with` does with a ledger of its own.
+pub fn run_drawn<R: Wait>(
+    rt: &R,
+    alloc: Global,
+    accepted: Arc<Accepted>,
+    plan: &Plan,
+    seed: u64,
+) -> Result<Ran, Stop>
+    ensures { IfOk result (IsRunOf (development_in (arc_value accepted)) plan.now.clients (plan_of plan.now).phases) }
+{
+    run_drawn_with::<Brand, R>(
+        rt,
+        alloc,
+        Blank::new(u64::from(SEAT_LIMIT)),
+        accepted,
+        plan,
+        seed,
+    )
 }

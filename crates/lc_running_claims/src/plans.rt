@@ -7,7 +7,7 @@ ghost use Rattle.lc_crew.specs.Ran.{IsRunOf};
 ghost use Rattle.lc_plan.specs.View.{plan_of};
 
 use lc_check::Accepted;
-use lc_crew::{Halt, Ran, Stop, run};
+use lc_crew::{Halt, Ran, Stop, run, run_drawn};
 use lc_plan::Plan;
 use std::alloc::Global;
 use std::sync::{Arc, Wait};
@@ -24,6 +24,19 @@ pub fn running<R: Threads + Wait + Sync>(
     ensures { IfOk result (IsRunOf (development_in (arc_value accepted)) plan.now.clients (plan_of plan.now).phases) }
 {
     run(rt, alloc, accepted, plan)
+}
+
+/// So it is if whose turn it is is drawn from a seed.
+pub fn running_drawn<R: Wait>(
+    rt: &R,
+    alloc: Global,
+    accepted: Arc<Accepted>,
+    plan: &Plan,
+    seed: u64,
+) -> Result<Ran, Stop>
+    ensures { IfOk result (IsRunOf (development_in (arc_value accepted)) plan.now.clients (plan_of plan.now).phases) }
+{
+    run_drawn(rt, alloc, accepted, plan, seed)
 }
 
 /// A halt has the word that is defined.

@@ -12,9 +12,10 @@ use Rattle.lc_base.specs.NameText.{is_name}
 use Rattle.lc_base.specs.declared.name.Name.{Name}
 use Rattle.lc_lib_texts.specs.Names.{lib_named}
 use Rattle.lc_lib_texts.specs.declared.library.Lib.{Lib}
-use Rattle.lc_words.specs.Reading.{beginning_task, begun, is_set, library_task, listed, listing_task, number_given, one_file_task, ordering, ordering_task, proving_task, running_task, showing_task, text_for, two_file_task, carrying_task, completing_task}
-use Rattle.lc_words.specs.Tasks.{BeginDevelopment, FindOrder, MakeWhole, PrintLibrary, RunPlan, Task, is_development_name, proving, showing, carrying}
+use Rattle.lc_words.specs.Reading.{beginning_task, begun, drawing, drawing_task, is_set, library_task, listed, listing_task, number_given, one_file_task, ordering, ordering_task, proving_task, running_task, showing_task, text_for, turns_by, turns_given, two_file_task, carrying_task, completing_task}
+use Rattle.lc_words.specs.Tasks.{BeginDevelopment, DrawHistory, FindOrder, MakeWhole, PrintLibrary, RunPlan, Task, is_development_name, proving, showing, carrying}
 use Rattle.lc_words.specs.declared.request.LibraryText.{LibraryText}
+use Rattle.lc_words.specs.declared.request.Turns.{Turns}
 
 -- the task of one path, and of two, if clap finds them
 pub one_found : (task : List ℕ → Task) (name : Text) (f : Found) (file : Option Text) → file ≡ first_value f name → option_map task file ≡ one_file_task task name (rows_of f)
@@ -61,13 +62,24 @@ carrying_found f old certificate new hints is_old is_certificate is_new is_hints
     ∙ ap₂ (λ x y. option_and_then (λ o. option_and_then (λ c. option_map (λ n. carrying o c n y) x) (first_of (codes "CERT") (rows_of f))) (first_of (codes "OLD") (rows_of f)))
     (is_new ∙ first_value-rows f (codes "NEW")) (is_hints ∙ first_value-rows f (codes "hints"))
 
--- the task of running a development, if clap finds its paths
-pub running_found : (f : Found) (development certificate plan : Option Text) → development ≡ first_value f (codes "DEV") → certificate ≡ first_value f (codes "CERT")
-    → plan ≡ first_value f (codes "PLAN") → option_and_then (λ d. option_and_then (λ c. option_map (RunPlan d c) plan) certificate) development ≡ running_task (rows_of f)
-running_found f development certificate plan is_development is_certificate is_plan =
-    ap₂ (λ x y. option_and_then (λ d. option_and_then (λ c. option_map (RunPlan d c) plan) y) x) (is_development ∙ first_value-rows f (codes "DEV")) (is_certificate ∙ first_value-rows f (codes "CERT"))
-    ∙ ap (λ x. option_and_then (λ d. option_and_then (λ c. option_map (RunPlan d c) x) (first_of (codes "CERT") (rows_of f))) (first_of (codes "DEV") (rows_of f)))
-    (is_plan ∙ first_value-rows f (codes "PLAN"))
+-- the task of running a development, if clap finds its paths, and whose turn it is
+pub running_found : (f : Found) (development certificate plan : Option Text) (turns : Option Turns) → development ≡ first_value f (codes "DEV") → certificate ≡ first_value f (codes "CERT")
+    → plan ≡ first_value f (codes "PLAN") → turns ≡ turns_given (rows_of f)
+    → option_and_then (λ d. option_and_then (λ c. option_and_then (λ p. option_map (RunPlan d c p) turns) plan) certificate) development ≡ running_task (rows_of f)
+running_found f development certificate plan turns is_development is_certificate is_plan is_turns =
+    ap₂ (λ x y. option_and_then (λ d. option_and_then (λ c. option_and_then (λ p. option_map (RunPlan d c p) turns) plan) y) x) (is_development ∙ first_value-rows f (codes "DEV")) (is_certificate ∙ first_value-rows f (codes "CERT"))
+    ∙ ap₂ (λ x y. option_and_then (λ d. option_and_then (λ c. option_and_then (λ p. option_map (RunPlan d c p) y) x) (first_of (codes "CERT") (rows_of f))) (first_of (codes "DEV") (rows_of f)))
+    (is_plan ∙ first_value-rows f (codes "PLAN")) is_turns
+
+pub turns_found : (f : Found) (seed : Option ℕ) (seeds : Option Text) (turns : Option Turns) → seed ≡ number_given (codes "seed") (rows_of f) → seeds ≡ first_value f (codes "seeds") → turns ≡ turns_by seed seeds
+    → turns ≡ turns_given (rows_of f)
+turns_found f seed seeds turns is_seed is_seeds is = is ∙ ap₂ turns_by is_seed (is_seeds ∙ first_value-rows f (codes "seeds"))
+
+-- a history is drawn as the flag says
+pub drawing_found : (f : Found) (development history : Text) (html : Bool) → Some development ≡ first_value f (codes "DEV") → Some history ≡ first_value f (codes "HISTORY")
+    → html ≡ is_set (codes "html") (rows_of f) → Some (DrawHistory development history html) ≡ drawing_task (rows_of f)
+drawing_found f development history html is is' set =
+    ap (λ x. Some (DrawHistory development history x)) set ∙ two_found (drawing (rows_of f)) (codes "HISTORY") f (Some development) (Some history) is is'
 
 -- a flag is set if its value is `true`
 pub flag_found : (f : Found) (name : Text) (value : Option Text) → value ≡ first_value f name → option_map_or (λ v. bytes_eq v (codes "true")) value false ≡ is_set name (rows_of f)

@@ -13,7 +13,7 @@ use Rattle.clap.specs.declared.builder.value_parser.ValueParser.TheVariants.{Uns
 use Rattle.lc_words.specs.Reading.{number_in}
 use Rattle.lc_words.specs.Tasks.{is_plain}
 
-no_digit : (b c : ℕ) → digit_value b < 10 → digit_value c ≡ 36 → (b == c) ≡ false
+pub no_digit : (b c : ℕ) → digit_value b < 10 → digit_value c ≡ 36 → (b == c) ≡ false
 no_digit b c low high = by (b == c) refl
   where
     by : (t : Bool) → (b == c) ≡ t → t ≡ false

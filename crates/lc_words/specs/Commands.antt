@@ -77,29 +77,29 @@ carry_files_app = with_rule (with_rule (with_rule (new_app (codes "carry")) (fil
 abbrev pub carry_app : App
 carry_app = explained (with_rule (with_rule carry_files_app (option_rule (codes "hints"))) (flag_rule (codes "progress")))
 
+-- an option with a number of 64 bits
+abbrev pub number_rule : Text → Rule
+number_rule name = record (option_rule name) { parser = Some (Unsigned 0 18446744073709551615) }
+
 -- `run DEV CERT PLAN`
 abbrev pub run_files_app : App
 run_files_app = with_rule (with_rule (with_rule (new_app (codes "run")) (file_rule (codes "DEV"))) (file_rule (codes "CERT"))) (file_rule (codes "PLAN"))
 
--- `run DEV CERT PLAN [--quiet] [--explain]`
+-- `run DEV CERT PLAN [--seed N] [--seeds A..B] [--quiet] [--explain]`
 abbrev pub run_app : App
-run_app = explained run_files_app
+run_app = explained (with_rule (with_rule run_files_app (number_rule (codes "seed"))) (option_rule (codes "seeds")))
 
 -- `library NAME [--certificate] [--hints]`
 abbrev pub library_app : App
 library_app = with_rule (with_rule (with_rule (new_app (codes "library")) (object_rule (codes "NAME"))) (flag_rule (codes "certificate"))) (flag_rule (codes "hints"))
 
--- `draw DEV HISTORY [--quiet] [--explain]`
+-- `draw DEV HISTORY [--html] [--quiet] [--explain]`
 abbrev pub draw_app : App
-draw_app = explained (with_rule (with_rule (new_app (codes "draw")) (file_rule (codes "DEV"))) (file_rule (codes "HISTORY")))
+draw_app = explained (with_rule (with_rule (with_rule (new_app (codes "draw")) (file_rule (codes "DEV"))) (file_rule (codes "HISTORY"))) (flag_rule (codes "html")))
 
 -- `new NAME`
 abbrev pub begin_app : App
 begin_app = with_rule (new_app (codes "new")) (object_rule (codes "NAME"))
-
--- an option with a number of 64 bits
-abbrev pub number_rule : Text → Rule
-number_rule name = record (option_rule name) { parser = Some (Unsigned 0 18446744073709551615) }
 
 -- `order DEV HISTORY [--check]`
 abbrev pub order_word_app : App

@@ -1,5 +1,6 @@
 -- What is read in words, in the terms in which clap's calls state it.
-use Rattle.std.specs.Prelude.{◌≡◌, ◌⊎◌, ℕ, Bool, true, false, if◌then◌else◌, codes, List, [], Option, Some, None, option_and_then, option_map}
+use Rattle.std.specs.Prelude.{◌≡◌, ◌⊎◌, ℕ, ◌==◌, nat_lt, length, Bool, true, false, if◌then◌else◌, codes, List, [], Option, Some, None, option_and_then, option_map}
+use Rattle.std.specs.List.{after_first, before_first, position_or_len}
 use Rattle.std.specs.Option.{option_map_or}
 use Rattle.std.specs.Str.{bytes_eq}
 use Rattle.std.specs.Str.Parse.{digits_value, without_leading_plus}
@@ -13,6 +14,8 @@ use Rattle.lc_words.specs.Tasks.{BeginDevelopment, CheckByWorkers, CheckCertific
 use Rattle.lc_words.specs.declared.request.LibraryText.{LibraryText}
 use Rattle.lc_words.specs.declared.request.LibraryText.TheVariants.{Development, Certificate, Hints}
 use Rattle.lc_words.specs.declared.request.Request.{Request}
+use Rattle.lc_words.specs.declared.request.Turns.{Turns}
+use Rattle.lc_words.specs.declared.request.Turns.TheVariants.{Free, Drawn, DrawnEach}
 
 -- the task with the file that these arguments name so
 abbrev pub one_file_task : (List ℕ → Task) → Text → List Row → Option Task
@@ -27,12 +30,6 @@ abbrev pub carrying_task : List Row → Option Task
 carrying_task rows =
     option_and_then (λ old. option_and_then (λ certificate. option_map (λ new. carrying old certificate new (first_of (codes "hints") rows)) (first_of (codes "NEW") rows)) (first_of (codes "CERT") rows))
     (first_of (codes "OLD") rows)
-
--- the task of running the development that these arguments name, with the certificate and the plan that they name
-abbrev pub running_task : List Row → Option Task
-running_task rows =
-    option_and_then (λ development. option_and_then (λ certificate. option_map (RunPlan development certificate) (first_of (codes "PLAN") rows)) (first_of (codes "CERT") rows))
-    (first_of (codes "DEV") rows)
 
 -- the flag is set: its value is `true`
 abbrev pub is_set : Text → List Row → Bool
@@ -107,6 +104,48 @@ ordering rows development history = FindOrder development history (is_set (codes
 abbrev pub ordering_task : List Row → Option Task
 ordering_task rows = two_file_task (ordering rows) (codes "HISTORY") rows
 
+-- a full stop
+abbrev pub is_stop : ℕ → Bool
+is_stop b = b == 46
+
+-- the texts before and behind the first one, if there is one
+abbrev pub parted : Text → Option (Text × Text)
+parted text = if nat_lt (position_or_len is_stop text) (length text) then Some (before_first is_stop text, after_first is_stop text) else None
+
+-- the numbers of `A` and `B`, if nothing is between the full stops of `A..B`
+abbrev pub range_of : Text → Text × Text → Option (ℕ × ℕ)
+range_of first (between, end) =
+    if length between == 0 then option_and_then (λ a. option_map (λ b. (a, b)) (number_in end)) (number_in first) else None
+
+-- the two numbers that a text `A..B` says
+abbrev pub range_in : Text → Option (ℕ × ℕ)
+range_in text = option_and_then (λ p. option_and_then (range_of p.0) (parted p.1)) (parted text)
+
+-- whose turn it is in a run, by a seed, or by the range of the seeds of several runs, which exclude each other
+abbrev pub turns_by : (seed : Option ℕ) (seeds : Option Text) → Option Turns
+turns_by None None = Some Free
+turns_by (Some seed) None = Some (Drawn seed)
+turns_by None (Some text) = option_map (λ r. DrawnEach r.0 r.1) (range_in text)
+turns_by (Some seed) (Some text) = None
+
+-- and so by these arguments
+abbrev pub turns_given : List Row → Option Turns
+turns_given rows = turns_by (number_given (codes "seed") rows) (first_of (codes "seeds") rows)
+
+-- the task of running the development that these arguments name, with the certificate and the plan that they name
+abbrev pub running_task : List Row → Option Task
+running_task rows =
+    option_and_then (λ development. option_and_then (λ certificate. option_and_then (λ plan. option_map (RunPlan development certificate plan) (turns_given rows)) (first_of (codes "PLAN") rows)) (first_of (codes "CERT") rows))
+    (first_of (codes "DEV") rows)
+
+-- the task of drawing a history by a development, as a page if these arguments set its flag
+abbrev pub drawing : List Row → List ℕ → List ℕ → Task
+drawing rows development history = DrawHistory development history (is_set (codes "html") rows)
+
+-- the task of drawing the history that these arguments name
+abbrev pub drawing_task : List Row → Option Task
+drawing_task rows = two_file_task (drawing rows) (codes "HISTORY") rows
+
 -- the task of making a short development whole with these arguments
 abbrev pub completing_task : List Row → Option Task
 completing_task rows = option_map (λ short. MakeWhole short (number_given (codes "budget") rows)) (first_of (codes "SHORT") rows)
@@ -131,7 +170,7 @@ task_in_command c =
     else (if bytes_eq c.0 (codes "library")
     then library_task c.1
     else (if bytes_eq c.0 (codes "draw")
-    then two_file_task DrawHistory (codes "HISTORY") c.1
+    then drawing_task c.1
     else (if bytes_eq c.0 (codes "new")
     then beginning_task c.1
     else (if bytes_eq c.0 (codes "run")

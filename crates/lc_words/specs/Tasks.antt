@@ -1,5 +1,5 @@
 -- What may be asked for, and the words that ask for it.
-use Rattle.std.specs.Prelude.{◌≡◌, ◌≤◌, ◌<◌, ◌^◌, ℕ, ◌==◌, ◌&&◌, nat_le, length, map, string_bytes, String, Bool, true, false, not, codes, List, [], ◌∷◌, Option, Some, None, IfSome, option_map}
+use Rattle.std.specs.Prelude.{◌≡◌, ◌≤◌, ◌<◌, ◌^◌, ℕ, ◌==◌, ◌&&◌, nat_le, length, map, string_bytes, String, Bool, true, false, not, codes, List, [], ◌∷◌, ◌++◌, Option, Some, None, IfSome, option_map}
 use Rattle.std.specs.Borrow.{Bor}
 use Rattle.std.specs.Fmt.{decimal}
 use Rattle.std.specs.declared.alloc.Global.{Global}
@@ -15,6 +15,8 @@ use Rattle.lc_words.specs.declared.request.LibraryText.{LibraryText}
 use Rattle.lc_words.specs.declared.request.LibraryText.TheVariants.{Development, Certificate, Hints}
 use Rattle.lc_words.specs.declared.request.Request.{Request}
 use Rattle.lc_words.specs.declared.request.Request.TheVariants.{Formula, Judge, Show, Conditions, Check, Prove, Draw, New, Library, Carry, Run, Order, Complete}
+use Rattle.lc_words.specs.declared.request.Turns.{Turns}
+use Rattle.lc_words.specs.declared.request.Turns.TheVariants.{Free, Drawn, DrawnEach}
 
 -- Which conditions are chosen: those of a point, of a kind, or of both, by their words
 pub data Filter : Type 0 where
@@ -27,8 +29,8 @@ pub data Filter : Type 0 where
 -- one is shown by its number; that the certificate in one file is checked against the development in another, by itself or by a number of
 -- workers; that a certificate is found for the development in a file, without hints or with those in another; that a certificate is found
 -- for a new development, with the proofs of an old one, by its certificate, without hints or with those in a further file; that the
--- development in a file is run, which the certificate in another proves, by the plan in a third; that the history in one file is drawn by
--- the specification in another; that a development with a name is begun; that a text of an object of the library is printed; that an
+-- development in a file is run, which the certificate in another proves, by the plan in a third, in threads or with turns that are drawn; that
+-- the history in one file is drawn by the specification in another, as a picture or as a page; that a development with a name is begun; that a text of an object of the library is printed; that an
 -- order is found that linearizes the history in one file by the specification in another, or a word says whether there is one, over as
 -- many nodes as a number says, if one is given; or that the short development in a file is made whole, in as many steps for a condition as a
 -- number says, if one is given
@@ -46,8 +48,8 @@ pub data Task : Type 0 where
   ProveWithHints : (development hints : List ℕ) → Task
   CarryCertificate : (old certificate new : List ℕ) → Task
   CarryWithHints : (old certificate new hints : List ℕ) → Task
-  RunPlan : (development certificate plan : List ℕ) → Task
-  DrawHistory : (development history : List ℕ) → Task
+  RunPlan : (development certificate plan : List ℕ) (turns : Turns) → Task
+  DrawHistory : (development history : List ℕ) (html : Bool) → Task
   BeginDevelopment : (name : List ℕ) → Task
   PrintLibrary : (lib : Lib) (text : LibraryText) → Task
   FindOrder : (development history : List ℕ) (check : Bool) (budget : Option ℕ) → Task
@@ -98,8 +100,8 @@ task_of (Conditions development chosen) = chosen_task development.now chosen
 task_of (Check development certificate workers all progress) = checking development.now certificate.now workers
 task_of (Prove development hints all progress) = proving development.now (path_in hints)
 task_of (Carry old certificate new hints progress) = carrying old.now certificate.now new.now (path_in hints)
-task_of (Run development certificate plan) = RunPlan development.now certificate.now plan.now
-task_of (Draw development history) = DrawHistory development.now history.now
+task_of (Run development certificate plan turns) = RunPlan development.now certificate.now plan.now turns
+task_of (Draw development history html) = DrawHistory development.now history.now html
 task_of (New name) = BeginDevelopment name.now
 task_of (Library lib text) = PrintLibrary lib text
 task_of (Order development history check budget) = FindOrder development.now history.now check budget
@@ -142,6 +144,21 @@ abbrev pub budget_words : Option ℕ → List Text
 budget_words None = []
 budget_words (Some n) = codes "--budget" ∷ decimal n ∷ []
 
+-- `A..B`
+abbrev pub range_text : ℕ → ℕ → Text
+range_text first end = decimal first ++ (codes ".." ++ decimal end)
+
+-- the options by which turns are drawn
+abbrev pub turn_words : Turns → List Text
+turn_words Free = []
+turn_words (Drawn seed) = codes "--seed" ∷ decimal seed ∷ []
+turn_words (DrawnEach first end) = codes "--seeds" ∷ range_text first end ∷ []
+
+-- the option of a page
+abbrev pub page_words : (html : Bool) → List Text
+page_words false = []
+page_words true = codes "--html" ∷ []
+
 -- the words that ask for a task, after the name of the program
 abbrev pub words_for : List ℕ → Task → List Text
 words_for name (CheckFormula path) = name ∷ codes "formula" ∷ path ∷ []
@@ -157,8 +174,8 @@ words_for name (ProveDevelopment development) = name ∷ codes "prove" ∷ devel
 words_for name (ProveWithHints development hints) = name ∷ codes "prove" ∷ development ∷ codes "--hints" ∷ hints ∷ []
 words_for name (CarryCertificate old certificate new) = name ∷ codes "carry" ∷ old ∷ certificate ∷ new ∷ []
 words_for name (CarryWithHints old certificate new hints) = name ∷ codes "carry" ∷ old ∷ certificate ∷ new ∷ codes "--hints" ∷ hints ∷ []
-words_for name (RunPlan development certificate plan) = name ∷ codes "run" ∷ development ∷ certificate ∷ plan ∷ []
-words_for name (DrawHistory development history) = name ∷ codes "draw" ∷ development ∷ history ∷ []
+words_for name (RunPlan development certificate plan turns) = name ∷ codes "run" ∷ development ∷ certificate ∷ plan ∷ turn_words turns
+words_for name (DrawHistory development history html) = name ∷ codes "draw" ∷ development ∷ history ∷ page_words html
 words_for name (BeginDevelopment own) = name ∷ codes "new" ∷ own ∷ []
 words_for name (PrintLibrary lib text) = library_words name (name_of lib) text
 words_for name (FindOrder development history check budget) = name ∷ codes "order" ∷ development ∷ history ∷ order_words check budget
@@ -169,6 +186,12 @@ abbrev pub HasPlainWords : Filter → Type 0
 HasPlainWords (OfPoint point) = is_plain point ≡ true
 HasPlainWords (OfKind kind) = is_plain kind ≡ true
 HasPlainWords (OfBoth point kind) = (is_plain point ≡ true) × (is_plain kind ≡ true)
+
+-- the seeds have 64 bits
+abbrev pub AreSeeds : Turns → Type 0
+AreSeeds Free = Unit {0}
+AreSeeds (Drawn seed) = seed < 2 ^ 64
+AreSeeds (DrawnEach first end) = (first < 2 ^ 64) × (end < 2 ^ 64)
 
 -- none of its paths begins with a hyphen, what is to be a name is one, a number has 64 bits, and workers are from 1 to their limit
 abbrev pub HasPlainPaths : Task → Type 0
@@ -185,8 +208,8 @@ HasPlainPaths (ProveDevelopment development) = is_plain development ≡ true
 HasPlainPaths (ProveWithHints development hints) = (is_plain development ≡ true) × (is_plain hints ≡ true)
 HasPlainPaths (CarryCertificate old certificate new) = (is_plain old ≡ true) × (is_plain certificate ≡ true) × (is_plain new ≡ true)
 HasPlainPaths (CarryWithHints old certificate new hints) = (is_plain old ≡ true) × (is_plain certificate ≡ true) × (is_plain new ≡ true) × (is_plain hints ≡ true)
-HasPlainPaths (RunPlan development certificate plan) = (is_plain development ≡ true) × (is_plain certificate ≡ true) × (is_plain plan ≡ true)
-HasPlainPaths (DrawHistory development history) = (is_plain development ≡ true) × (is_plain history ≡ true)
+HasPlainPaths (RunPlan development certificate plan turns) = (is_plain development ≡ true) × (is_plain certificate ≡ true) × (is_plain plan ≡ true) × AreSeeds turns
+HasPlainPaths (DrawHistory development history html) = (is_plain development ≡ true) × (is_plain history ≡ true)
 HasPlainPaths (BeginDevelopment name) = is_development_name name ≡ true
 HasPlainPaths (PrintLibrary lib text) = Unit {0}
 HasPlainPaths (FindOrder development history check budget) = (is_plain development ≡ true) × (is_plain history ≡ true) × IfSome budget (λ n. n < 2 ^ 64)

@@ -3,11 +3,11 @@ ghost use Rattle.std.specs.Prelude.{◌≡◌, ◌⊎◌, ℕ, List, codes, IfOk
 ghost use Rattle.clap.specs.Words.{found_of, kind_of, rows_of, subcommand_of, subcommand_rows_of};
 ghost use Rattle.clap.specs.declared.error.kind.ErrorKind.TheVariants.{OutOfMemory};
 ghost use Rattle.lc_words.specs.Commands.{program_app};
-ghost use Rattle.lc_words.specs.Tasks.{CheckCertificate, CheckFormula, DrawHistory, JudgeHistory, Task, chosen_task, path_in, task_of, texts_of};
-ghost use Rattle.lc_words.specs.Reading.{AreWrong, AskFor, AskForHelp, AsksForText, Reads, beginning_task, checking_task, is_explained, is_set, library_task, listed, listing_task, number_given, number_in, one_file_task, ordering_task, proving_task, running_task, showing_task, task_in, text_for, two_file_task, carrying_task, checked, completing_task};
+ghost use Rattle.lc_words.specs.Tasks.{CheckCertificate, CheckFormula, JudgeHistory, Task, chosen_task, path_in, task_of, texts_of};
+ghost use Rattle.lc_words.specs.Reading.{AreWrong, AskFor, AskForHelp, AsksForText, Reads, beginning_task, checking_task, drawing_task, is_explained, is_set, library_task, listed, listing_task, number_given, number_in, one_file_task, ordering_task, parted, proving_task, range_in, running_task, showing_task, task_in, text_for, turns_by, two_file_task, carrying_task, checked, completing_task};
 
 use crate::commands::program;
-use crate::request::{Asked, Chosen, LibraryText, Request};
+use crate::request::{Asked, Chosen, LibraryText, Request, Turns};
 use clap::error::ErrorKind;
 use clap::{ArgMatches, Error};
 use lc_base::Name;
@@ -33,13 +33,15 @@ fn judge_request<'a>(command: &ArgMatches<'a>) -> Option<Request<'a>>
 }
 
 fn draw_request<'a>(command: &ArgMatches<'a>) -> Option<Request<'a>>
-    ensures { option_map task_of result ≡ two_file_task DrawHistory (codes "HISTORY") (rows_of (found_of command.now)) }
+    ensures { option_map task_of result ≡ drawing_task (rows_of (found_of command.now)) }
 {
     let development = command.get_str("DEV")?;
     let history = command.get_str("HISTORY")?;
+    let html = is_set(command, "html");
     Some(Request::Draw {
         development,
         history,
+        html,
     })
 }
 
@@ -190,16 +192,56 @@ fn carry_request<'a>(command: &ArgMatches<'a>) -> Option<Request<'a>>
     })
 }
 
+/// The texts before and behind the first full stop.
+fn parted(text: &str) -> Option<(&str, &str)>
+    ensures { option_map (λ p. (p.0.now, p.1.now)) result ≡ parted text.now }
+{
+    text.split_once('.')
+}
+
+/// The two numbers that a text `A..B` says.
+fn range_in(text: &str) -> Option<(u64, u64)>
+    ensures { result ≡ range_in text.now }
+{
+    let (first_text, rest) = parted(text)?;
+    let (between, end_text) = parted(rest)?;
+    if !between.is_empty() {
+        return None;
+    }
+    let first = number_in(first_text)?;
+    let end = number_in(end_text)?;
+    Some((first, end))
+}
+
+/// Whose turn it is in a run, by a seed, or by a text with the seeds of several runs, which exclude each other.
+fn turns_by(seed: Option<u64>, seeds: Option<&str>) -> Option<Turns>
+    ensures { result ≡ turns_by seed (path_in seeds.entry) }
+{
+    match (seed, seeds) {
+        (None, None) => Some(Turns::Free),
+        (Some(seed), None) => Some(Turns::Drawn(seed)),
+        (None, Some(text)) => {
+            let (first, end) = range_in(text)?;
+            Some(Turns::DrawnEach(first, end))
+        }
+        (Some(_), Some(_)) => None,
+    }
+}
+
 fn run_request<'a>(command: &ArgMatches<'a>) -> Option<Request<'a>>
     ensures { option_map task_of result ≡ running_task (rows_of (found_of command.now)) }
 {
     let development = command.get_str("DEV")?;
     let certificate = command.get_str("CERT")?;
     let plan = command.get_str("PLAN")?;
+    let seed = number_given(command, "seed");
+    let seeds = command.get_str("seeds");
+    let turns = turns_by(seed, seeds)?;
     Some(Request::Run {
         development,
         certificate,
         plan,
+        turns,
     })
 }
 
@@ -303,6 +345,23 @@ fn library_fault(command: &ArgMatches<'_>) -> (ErrorKind, &'static str)
     }
 }
 
+/// Why the command `run` asks for nothing.
+fn run_fault(command: &ArgMatches<'_>) -> (ErrorKind, &'static str)
+    ensures { AsksForText result.0 → ⊥ }
+{
+    if command.get_str("seed").is_some() {
+        (
+            ErrorKind::ArgumentConflict,
+            "`--seed` and `--seeds` exclude each other",
+        )
+    } else {
+        (
+            ErrorKind::ValueValidation,
+            "A..B are no two numbers of 64 bits",
+        )
+    }
+}
+
 /// Why words in which clap finds no fault ask for nothing.
 fn fault_in(matches: &ArgMatches<'_>) -> (ErrorKind, &'static str)
     ensures { AsksForText result.0 → ⊥ }
@@ -314,6 +373,7 @@ fn fault_in(matches: &ArgMatches<'_>) -> (ErrorKind, &'static str)
             "`--workers` and `--progress` exclude each other",
         ),
         Some(("library", command)) => library_fault(command),
+        Some(("run", command)) => run_fault(command),
         Some(("new", _)) => (
             ErrorKind::ValueValidation,
             "NAME is no name: a letter or `_`, then letters, digits, `_`, `-` and `.`, at most 64 of them",

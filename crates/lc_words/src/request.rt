@@ -21,6 +21,17 @@ pub enum Chosen<'a> {
     },
 }
 
+/// Whose turn it is in a run.
+#[derive(Clone, Copy)]
+pub enum Turns {
+    /// Each client's, in a thread of its own.
+    Free,
+    /// That of the client that is drawn, from this seed.
+    Drawn(u64),
+    /// The same in a run for each seed from the first to before the second.
+    DrawnEach(u64, u64),
+}
+
 /// What the command line asks for.
 #[derive(Clone, Copy)]
 pub enum Request<'a> {
@@ -71,11 +82,13 @@ pub enum Request<'a> {
         development: &'a str,
         certificate: &'a str,
         plan: &'a str,
+        turns: Turns,
     },
-    /// Draw the history in a file, with its order, by the specification in another.
+    /// Draw the history in a file, with its order, by the specification in another, as a page or as a picture.
     Draw {
         development: &'a str,
         history: &'a str,
+        html: bool,
     },
     /// Find an order that linearizes the history in a file, by the specification in another, over `budget` nodes, if a number is
     /// given; or say with a word whether there is one.

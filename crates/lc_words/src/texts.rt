@@ -88,12 +88,16 @@ Example:
 
 pub(crate) const DRAW: &str = "Draws a history with its order";
 
+pub(crate) const DRAW_HTML: &str = "Print a page for a browser in place of the picture";
+
 pub(crate) const DRAW_ANSWER: &str = "\
 Reads DEV and HISTORY as `order` does, and prints a picture as SVG: a line for each client, a bar for each call from its beginning
 to its return, open at the right if it has not returned, and in the bars the entries of the order as marks with their places.
 What makes the order no linearization is marked, and the reason is written below. If HISTORY has no order, one is looked for, as by
-`order`; if there is none, a line is behind the event up to which no order linearizes the events. A file that `order` refuses
-is refused here too.
+`order`; if there is none, a line is behind the event up to which no order linearizes the events. With --html it prints a page for a
+browser, one file without anything from elsewhere: it draws what is in view of a history as long as may be, says of each call what it
+is and of each entry what it changes in the state of the specification, and leads to the first fault and to pending calls. A file
+that `order` refuses is refused here too.
 
 Example:
   lincheck draw examples/counter.spec examples/linearizable.json > history.svg
@@ -311,6 +315,12 @@ pub(crate) const RUN: &str = "Runs a development by clients in threads";
 pub(crate) const PLAN_FILE: &str =
     "A plan: how many clients there are, and which calls they make in phases";
 
+pub(crate) const RUN_SEED: &str =
+    "Draw whose turn it is from the seed N, in one thread: the same seed runs the same";
+
+pub(crate) const RUN_SEEDS: &str =
+    "Make a run for each seed from A to before B, and print a line for each";
+
 pub(crate) const RUN_ANSWER: &str = "\
 Reads DEV and CERT as `check` does, and then PLAN. Runs the object by the clients of the plan, each in a thread of its own: the phases
 come one after another, and in each its clients make their calls side by side. Prints `linearizable COUNT`, with the number of calls
@@ -319,12 +329,19 @@ linearizes it, as `judge` reads them. A client did not come to its end for one o
   client C spent     a call used all its turns
   client C overflow  a number leaves 64 bits
   client C full      1,000,000 steps were taken
-Which steps come first may be another at each run. Else it prints one line:
+Which steps come first may be another at each run. With --seed N they are taken by one thread, each by a client that is drawn among
+those that make a further call in the phase: so the calls overlap, and the same DEV, PLAN and N print the same text everywhere. With
+--seeds A..B such a run is made for each seed from A to before B, and for each one line is printed, with a word for each client that
+did not come to its end:
+  seed N linearizable COUNT client C spent ..
+Else it prints one line:
   refused CODE ..  DEV or CERT is refused as by `check`, or PLAN by the codes 1 to 4 and 6
 
-Example:
+Examples:
   lincheck run examples/counter.lc examples/counter.cert examples/counter.plan
-      prints `linearizable 201`, and how two clients counted to 200";
+      prints `linearizable 201`, and how two clients counted to 200
+  lincheck run examples/counter.lc examples/counter.cert examples/counter.plan --seeds 0..1000
+      prints a line for each of a thousand runs";
 
 pub(crate) const LIBRARY: &str = "Prints an object of the library";
 

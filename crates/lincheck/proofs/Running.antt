@@ -1,6 +1,7 @@
 -- What a development's file, its certificate's and a plan's are answered, from the beginnings of them that are read.
-use Rattle.std.proofs.Common.{◌≡◌, ℕ, ℤ, List, [], ◌∷◌, ◌++◌, codes, flat_map, length, Option, IfOk, Result, Ok, Err, Vec, sym, ap, ap₂, subst, ◌∙◌, inl, inr}
+use Rattle.std.proofs.Common.{◌≡◌, ℕ, zero, suc, ◌+◌, ℤ, List, [], ◌∷◌, ◌++◌, codes, flat_map, length, Option, IfOk, Result, Ok, Err, Vec, refl, sym, ap, ap₂, subst, ◌∙◌, inl, inr, append-nil, append_assoc, arith}
 use Rattle.std.proofs.lemmas.List.{length-map}
+use Rattle.std.specs.Fmt.{decimal}
 use Rattle.std.specs.declared.alloc.Global.{Global}
 use Rattle.lc_base.specs.Line.{line_of}
 use Rattle.lc_base.specs.declared.refusal.Fault.{Fault}
@@ -30,11 +31,12 @@ use Rattle.lc_reading.specs.Files.{Says, IsFirstRefusal, IsAnswerTo}
 use Rattle.lc_run.specs.LabelView.{labels_of}
 use Rattle.lc_seq.specs.declared.choice.Pick.{Pick}
 use Rattle.lc_seq.specs.declared.text_call.TextCall.{TextCall}
+use Rattle.lc_words.specs.declared.request.Turns.{Turns}
 use Rattle.lincheck.specs.Answers.{ToldFault}
 use Rattle.lincheck.specs.Carry.{RefusesCertificate}
 use Rattle.lincheck.specs.Check.{TellsRefusal}
 use Rattle.lincheck.specs.Reading.{OfFile, within_limit}
-use Rattle.lincheck.specs.Run.{AnswersPlan, AnswersProvenRun, AnswersRun, IsUnreadPlan, IsUnreadRun, OpensAccepted, OpensPlan, RefusesPlan, RunsSo, TellsRun, end_text, ran_text, run_text}
+use Rattle.lincheck.specs.Run.{AnswersPlan, AnswersProvenRun, AnswersRun, IsUnreadPlan, IsUnreadRun, OpensAccepted, OpensPlan, RefusesPlan, RunsBy, TellsRun, TellsSeed, TellsSeeds, end_text, ended_text, ran_text, run_text, seed_text}
 use Rattle.lincheck.specs.declared.answer.Answer.{Answer}
 use Rattle.lincheck.specs.declared.answer.Failure.{Failure}
 use Rattle.lincheck.proofs.Opened.{refusal_of_certificate}
@@ -93,38 +95,71 @@ ran_told D P ran text is same = (
 
 -- ---- the answers
 
-pub planned_answered : (D : Development) (known : Option (List ℕ)) (plan : Plan) (text : List ℕ) (status : ℕ) → OfFile known (λ file. OpensPlan D file (Ok plan)) → RunsSo D (plan_of plan) text status
-    → OfFile known (λ file. AnswersPlan D file text status)
-planned_answered D known plan text status opens runs = read_so known opens (λ file opens. inr (plan_of plan, opens, runs))
+pub planned_answered : (turns : Turns) (D : Development) (known : Option (List ℕ)) (plan : Plan) (text : List ℕ) (status : ℕ) → OfFile known (λ file. OpensPlan D file (Ok plan)) → RunsBy turns D (plan_of plan) text status
+    → OfFile known (λ file. AnswersPlan turns D file text status)
+planned_answered turns D known plan text status opens runs = read_so known opens (λ file opens. inr (plan_of plan, opens, runs))
 
-pub planned_refused : (D : Development) (known : Option (List ℕ)) (answer : Answer) → OfFile known (λ file. OpensPlan D file (Err answer))
-    → OfFile known (λ file. AnswersPlan D file answer.text.items answer.status)
-planned_refused D known answer tells = read_so known tells (λ file tells. inl tells)
+pub planned_refused : (turns : Turns) (D : Development) (known : Option (List ℕ)) (answer : Answer) → OfFile known (λ file. OpensPlan D file (Err answer))
+    → OfFile known (λ file. AnswersPlan turns D file answer.text.items answer.status)
+planned_refused turns D known answer tells = read_so known tells (λ file tells. inl tells)
 
-pub proven_answered : (D : Development) (known plan plan' : Option (List ℕ)) (accepted : Accepted) (result : Result Answer Failure) → OfFile known (λ file. OpensAccepted D file (Ok accepted)) → plan' ≡ plan
-    → IfOk result (λ answer. OfFile plan' (λ file. AnswersPlan (development_in accepted) file answer.text.items answer.status))
-    → IfOk result (λ answer. OfFile known (λ file. AnswersProvenRun D file plan answer.text.items answer.status))
-proven_answered D known plan plan' accepted (Ok answer) opens keeps h = read_so known opens (λ file (same, proven). inr (proven, subst (λ p. OfFile p (λ f. AnswersPlan D f answer.text.items answer.status)) keeps (subst (λ d. OfFile plan' (λ f. AnswersPlan d f answer.text.items answer.status)) same h)))
-proven_answered D known plan plan' accepted (Err failure) opens keeps h = tt
+pub proven_answered : (turns : Turns) (D : Development) (known plan plan' : Option (List ℕ)) (accepted : Accepted) (result : Result Answer Failure) → OfFile known (λ file. OpensAccepted D file (Ok accepted)) → plan' ≡ plan
+    → IfOk result (λ answer. OfFile plan' (λ file. AnswersPlan turns (development_in accepted) file answer.text.items answer.status))
+    → IfOk result (λ answer. OfFile known (λ file. AnswersProvenRun turns D file plan answer.text.items answer.status))
+proven_answered turns D known plan plan' accepted (Ok answer) opens keeps h = read_so known opens (λ file (same, proven). inr (proven, subst (λ p. OfFile p (λ f. AnswersPlan turns D f answer.text.items answer.status)) keeps (subst (λ d. OfFile plan' (λ f. AnswersPlan turns d f answer.text.items answer.status)) same h)))
+proven_answered turns D known plan plan' accepted (Err failure) opens keeps h = tt
 
-pub proven_refused : (D : Development) (known plan : Option (List ℕ)) (answer : Answer) → OfFile known (λ file. OpensAccepted D file (Err answer))
-    → OfFile known (λ file. AnswersProvenRun D file plan answer.text.items answer.status)
-proven_refused D known plan answer tells = read_so known tells (λ file tells. inl tells)
+pub proven_refused : (turns : Turns) (D : Development) (known plan : Option (List ℕ)) (answer : Answer) → OfFile known (λ file. OpensAccepted D file (Err answer))
+    → OfFile known (λ file. AnswersProvenRun turns D file plan answer.text.items answer.status)
+proven_refused turns D known plan answer tells = read_so known tells (λ file tells. inl tells)
 
-pub run_answered : (known certificate certificate' plan plan' : Option (List ℕ)) (D : Development) (result : Result Answer Failure) → OfFile known (λ file. Says file_reading file D) → certificate' ≡ certificate → plan' ≡ plan
-    → IfOk result (λ answer. OfFile certificate' (λ file. AnswersProvenRun D file plan' answer.text.items answer.status))
-    → IfOk result (λ answer. OfFile known (λ file. AnswersRun file certificate plan answer.text.items answer.status))
-run_answered known certificate certificate' plan plan' D (Ok answer) says keeps keeps' h = read_so known says (λ file says. inr (
+pub run_answered : (turns : Turns) (known certificate certificate' plan plan' : Option (List ℕ)) (D : Development) (result : Result Answer Failure) → OfFile known (λ file. Says file_reading file D) → certificate' ≡ certificate → plan' ≡ plan
+    → IfOk result (λ answer. OfFile certificate' (λ file. AnswersProvenRun turns D file plan' answer.text.items answer.status))
+    → IfOk result (λ answer. OfFile known (λ file. AnswersRun turns file certificate plan answer.text.items answer.status))
+run_answered turns known certificate certificate' plan plan' D (Ok answer) says keeps keeps' h = read_so known says (λ file says. inr (
   D,
   says,
-  subst (λ c. OfFile c (λ f. AnswersProvenRun D f plan answer.text.items answer.status)) keeps
-      (subst (λ p. OfFile certificate' (λ f. AnswersProvenRun D f p answer.text.items answer.status)) keeps' h),
+  subst (λ c. OfFile c (λ f. AnswersProvenRun turns D f plan answer.text.items answer.status)) keeps
+      (subst (λ p. OfFile certificate' (λ f. AnswersProvenRun turns D f p answer.text.items answer.status)) keeps' h),
 ))
-run_answered known certificate certificate' plan plan' D (Err failure) says keeps keeps' h = tt
+run_answered turns known certificate certificate' plan plan' D (Err failure) says keeps keeps' h = tt
 
-pub run_refused : (known certificate plan : Option (List ℕ)) (answer : Answer) → OfFile known (λ file. TellsRefusal file answer.text.items answer.status)
-    → OfFile known (λ file. AnswersRun file certificate plan answer.text.items answer.status)
-run_refused known certificate plan answer tells = read_so known tells (λ file tells. inl tells)
+pub run_refused : (turns : Turns) (known certificate plan : Option (List ℕ)) (answer : Answer) → OfFile known (λ file. TellsRefusal file answer.text.items answer.status)
+    → OfFile known (λ file. AnswersRun turns file certificate plan answer.text.items answer.status)
+run_refused turns known certificate plan answer tells = read_so known tells (λ file tells. inl tells)
+
+-- ---- runs by seeds
+
+-- one run more at the end
+pub seeds_more : (D : Development) (P : S.Plan) (n seed : ℕ) (text line : List ℕ) → TellsSeeds D P n seed text → TellsSeed D P (seed + n) line → TellsSeeds D P (suc n) seed (text ++ line)
+seeds_more D P zero seed text line none tells = (line, [], subst (λ k. TellsSeed D P k line) (let e : seed + 0 ≡ seed = omega arith in e) tells, refl, subst (λ t. t ++ line ≡ line ++ []) (sym none) (sym (append-nil line)))
+seeds_more D P (suc n) seed text line (first, rest, one, others, is) tells = (
+  first,
+  rest ++ line,
+  one,
+  seeds_more D P n (suc seed) rest line others (subst (λ k. TellsSeed D P k line) (let e : seed + suc n ≡ suc seed + n = omega arith in e) tells),
+  ap (λ t. t ++ line) is ∙ append_assoc first rest line,
+)
+
+regrouped : (a b c d : List ℕ) → a ++ (b ++ (c ++ d)) ≡ a ++ b ++ c ++ d
+regrouped a b c d = simp append_assoc
+
+-- the line of a run is its words, then its clients, then a line feed
+pub seed_line_is : (seed entries : ℕ) (ends : List Ended) (words bytes line whole : List ℕ) → words ≡ codes "seed " ++ (decimal seed ++ (codes " linearizable " ++ decimal entries)) → bytes ≡ words
+    → line ≡ bytes ++ flat_map ended_text ends → whole ≡ line ++ 10 ∷ [] → whole ≡ seed_text seed entries ends
+seed_line_is seed entries ends words bytes line whole is_words is_bytes is_line is_whole =
+    let begins = is_bytes ∙ (is_words ∙ regrouped (codes "seed ") (decimal seed) (codes " linearizable ") (decimal entries)) in
+    is_whole ∙ ap (λ l. l ++ 10 ∷ []) (is_line ∙ ap (λ l. l ++ flat_map ended_text ends) begins)
+
+-- the line of a run is that of its labels
+pub seed_told : (D : Development) (P : S.Plan) (seed count : ℕ) (ran : Ran) (ends : List Ended) (line : List ℕ) → IsRunOf D P.clients P.phases ran → count ≡ length ran.log.order.items → ends ≡ ran.ends.items
+    → line ≡ seed_text seed count ends → TellsSeed D P seed line
+seed_told D P seed count ran ends line is counted ended same = (
+  labels_of ran.log.labels.items,
+  ran.ends.items,
+  is.ordered,
+  same ∙ ap₂ (seed_text seed) (counted ∙ sym (length-map ran.log.order.items entry_view) ∙ ap length is.entries) ended,
+)
 
 -- ---- files that cannot be opened
 

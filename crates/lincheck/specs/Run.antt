@@ -1,5 +1,5 @@
 -- The answers to a development's file, its certificate's and a plan's.
-use Rattle.std.specs.Prelude.{◌≡◌, ℕ, ◌⊎◌, List, [], ◌∷◌, ◌++◌, codes, flat_map, length, Option, Some, None, Result, Ok, Err}
+use Rattle.std.specs.Prelude.{◌≡◌, ℕ, zero, suc, ◌-◌, ◌⊎◌, List, [], ◌∷◌, ◌++◌, codes, flat_map, length, Option, Some, None, Result, Ok, Err}
 use Rattle.std.specs.Fmt.{decimal}
 use Rattle.lc_base.specs.Line.{line_of}
 use Rattle.lc_base.specs.declared.refusal.Fault.TheVariants.{Refused}
@@ -25,6 +25,8 @@ use Rattle.lc_plan.specs.declared.plan.Plan.{Plan}
 use Rattle.lc_reading.specs.Files.{Says, IsFirstRefusal}
 use Rattle.lc_sound.specs.Instrumented.{Label, history}
 use Rattle.lc_sound.specs.Order.{order}
+use Rattle.lc_words.specs.declared.request.Turns.{Turns}
+use Rattle.lc_words.specs.declared.request.Turns.TheVariants.{Free, Drawn, DrawnEach}
 use Rattle.lincheck.specs.Answers.{ToldFault}
 use Rattle.lincheck.specs.Carry.{RefusesCertificate}
 use Rattle.lincheck.specs.Check.{TellsRefusal}
@@ -56,28 +58,56 @@ abbrev pub TellsRun : Development → S.Plan → List ℕ → Type 0
 TellsRun D P text =
     (labels : List Label) × (ends : List Ended) × IsOrdered D P.clients P.phases labels ends × (text ≡ run_text D (history labels) (order labels) ends)
 
--- a run is reported, with status 0; or seats did not match, and nothing is printed
-abbrev pub RunsSo : Development → S.Plan → List ℕ → ℕ → Type 0
-RunsSo D P text status = (TellsRun D P text × (status ≡ 0)) ⊎ ((text ≡ []) × (status ≡ 5))
+-- ` client C WORD`, for a client that did not come to its end
+abbrev pub halted_text : ℕ → Option Halt → List ℕ
+halted_text client None = []
+halted_text client (Some halt) = codes " client " ++ decimal client ++ codes " " ++ word_of halt
+
+abbrev pub ended_text : Ended → List ℕ
+ended_text e = halted_text e.client e.halt
+
+-- the line for a run by a seed: the number of entries, and the clients that did not come to their ends
+abbrev pub seed_text : ℕ → ℕ → List Ended → List ℕ
+seed_text seed entries ends = codes "seed " ++ decimal seed ++ codes " linearizable " ++ decimal entries ++ flat_map ended_text ends ++ (10 ∷ [])
+
+-- what is printed of a run by a plan and a seed, in a line
+abbrev pub TellsSeed : Development → S.Plan → ℕ → List ℕ → Type 0
+TellsSeed D P seed text =
+    (labels : List Label) × (ends : List Ended) × IsOrdered D P.clients P.phases labels ends × (text ≡ seed_text seed (length (order labels)) ends)
+
+-- and of runs by n seeds, from this one on
+abbrev pub TellsSeeds : Development → S.Plan → (n seed : ℕ) → List ℕ → Type 0
+TellsSeeds D P zero seed text = text ≡ []
+TellsSeeds D P (suc n) seed text = (line : List ℕ) × (rest : List ℕ) × TellsSeed D P seed line × TellsSeeds D P n (suc seed) rest × (text ≡ line ++ rest)
+
+-- what is printed by a plan, by whose turn it is
+abbrev pub TellsBy : Turns → Development → S.Plan → List ℕ → Type 0
+TellsBy Free D P text = TellsRun D P text
+TellsBy (Drawn seed) D P text = TellsRun D P text
+TellsBy (DrawnEach first end) D P text = TellsSeeds D P (end - first) first text
+
+-- what has run is reported, with status 0; or seats did not match, and nothing is printed
+abbrev pub RunsBy : Turns → Development → S.Plan → List ℕ → ℕ → Type 0
+RunsBy turns D P text status = (TellsBy turns D P text × (status ≡ 0)) ⊎ ((text ≡ []) × (status ≡ 5))
 
 -- the file is no plan for the development, and its first refusal is reported
 abbrev pub RefusesPlan : Development → List ℕ → List ℕ → ℕ → Type 0
 RefusesPlan D file text status = (refusal : Refusal) × IsFirstRefusal (plan_reading D) file refusal × ToldFault (Refused refusal) text status
 
--- the file of the plan is refused; or the development runs by it
-abbrev pub AnswersPlan : Development → List ℕ → List ℕ → ℕ → Type 0
-AnswersPlan D file text status = RefusesPlan D file text status ⊎ ((P : S.Plan) × Says (plan_reading D) file P × RunsSo D P text status)
+-- the file of the plan is refused; or the development runs so by it
+abbrev pub AnswersPlan : Turns → Development → List ℕ → List ℕ → ℕ → Type 0
+AnswersPlan turns D file text status = RefusesPlan D file text status ⊎ ((P : S.Plan) × Says (plan_reading D) file P × RunsBy turns D P text status)
 
 -- the file of the certificate is refused; or it proves the development, and the plan's is answered
-abbrev pub AnswersProvenRun : Development → List ℕ → Option (List ℕ) → List ℕ → ℕ → Type 0
-AnswersProvenRun D file plan text status =
-    RefusesCertificate D file text status ⊎ (IsProvenBy D file × OfFile plan (λ other. AnswersPlan D other text status))
+abbrev pub AnswersProvenRun : Turns → Development → List ℕ → Option (List ℕ) → List ℕ → ℕ → Type 0
+AnswersProvenRun turns D file plan text status =
+    RefusesCertificate D file text status ⊎ (IsProvenBy D file × OfFile plan (λ other. AnswersPlan turns D other text status))
 
 -- The answer to a development's file, its certificate's and a plan's. The first that is refused decides
-abbrev pub AnswersRun : List ℕ → Option (List ℕ) → Option (List ℕ) → List ℕ → ℕ → Type 0
-AnswersRun development certificate plan text status =
+abbrev pub AnswersRun : Turns → List ℕ → Option (List ℕ) → Option (List ℕ) → List ℕ → ℕ → Type 0
+AnswersRun turns development certificate plan text status =
     TellsRefusal development text status
-    ⊎ ((D : Development) × Says file_reading development D × OfFile certificate (λ file. AnswersProvenRun D file plan text status))
+    ⊎ ((D : Development) × Says file_reading development D × OfFile certificate (λ file. AnswersProvenRun turns D file plan text status))
 
 -- ---- files that are opened
 

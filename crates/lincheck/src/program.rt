@@ -122,6 +122,7 @@ fn carry_out<'a, R: Threads + Wait + Sync, F: Files, O: Write, E: Write>(
             development,
             certificate,
             plan,
+            turns,
         } => {
             let answer = answer_run(
                 rt,
@@ -130,6 +131,7 @@ fn carry_out<'a, R: Threads + Wait + Sync, F: Files, O: Write, E: Write>(
                 development,
                 certificate,
                 plan,
+                turns,
                 telling.err,
             )?;
             print_told(out, why, &answer)
@@ -137,8 +139,9 @@ fn carry_out<'a, R: Threads + Wait + Sync, F: Files, O: Write, E: Write>(
         Request::Draw {
             development,
             history,
+            html,
         } => {
-            let answer = answer_draw(alloc, files, development, history)?;
+            let answer = answer_draw(alloc, files, development, history, html)?;
             print_told(out, why, &answer)
         }
         Request::Order {

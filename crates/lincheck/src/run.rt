@@ -1,15 +1,17 @@
 //! The command `run`.
-ghost use Rattle.std.specs.Prelude.{◌≡◌, ◌++◌, ℕ, List, Some, flat_map, IfOk, IsErr, OnOk};
+ghost use Rattle.std.specs.Prelude.{◌≡◌, ◌++◌, ◌-◌, ℕ, List, Some, flat_map, IfOk, IsErr, OnOk};
+ghost use Rattle.std.specs.Arc.{arc_value};
 ghost use Rattle.lc_sexp.specs.Pieces.{WasFed};
 ghost use Rattle.lc_reading.specs.Files.{IsAnswerTo};
 ghost use Rattle.lc_check.specs.VerdictView.{development_in};
+ghost use Rattle.lc_crew.specs.Ran.{IsRunOf};
 ghost use Rattle.lc_outline.specs.DevelopmentView.{development_view};
 ghost use Rattle.lc_plan.specs.Readings.{plan_reading};
 ghost use Rattle.lc_plan.specs.View.{plan_of};
 ghost use Rattle.lc_words.specs.Tasks.{RunPlan};
 ghost use Rattle.lincheck.specs.Execution.{AnswersTask, IsUnread};
 ghost use Rattle.lincheck.specs.Reading.{OfFile};
-ghost use Rattle.lincheck.specs.Run.{AnswersPlan, AnswersProvenRun, IsUnreadPlan, OpensAccepted, OpensPlan, RunsSo, end_text, halt_text, ran_text};
+ghost use Rattle.lincheck.specs.Run.{AnswersPlan, AnswersProvenRun, IsUnreadPlan, OpensAccepted, OpensPlan, RunsBy, TellsBy, TellsRun, TellsSeeds, end_text, ended_text, halt_text, ran_text, seed_text};
 
 use crate::answer::{Answer, Failure, SEATS_DO_NOT_MATCH, SUCCESS, told_fault};
 use crate::check::open_development;
@@ -18,11 +20,12 @@ use crate::reading::{feed_file, feed_forms};
 use crate::sink::Proving;
 use lc_base::{Fault, OutOfMemory, write_line};
 use lc_check::{Accepted, Alone, CertificateSession, Verdict};
-use lc_crew::{Ended, Halt, Ran, Stop, run};
+use lc_crew::{Ended, Halt, Ran, Stop, run, run_drawn};
 use lc_hist::history_to_json;
 use lc_outline::Development;
 use lc_plan::{Plan, plan_in};
 use lc_sexp::FormsReader;
+use lc_words::Turns;
 use std::alloc::Global;
 use std::io::Write;
 use std::sync::{Arc, Wait};
@@ -120,21 +123,129 @@ fn ran_text(alloc: Global, development: &Development, ran: &Ran) -> Result<Vec<u
     Ok(text)
 }
 
+/// Appends what the line of a run by a seed says of a client, if it did not come to its end.
+fn push_ended(alloc: Global, line: &mut Vec<u8>, ended: &Ended) -> Result<(), OutOfMemory>
+    ensures { OnOk result (line.new.items ≡ line.old.items ++ ended_text ended.now) }
+{
+    let Some(halt) = ended.halt else {
+        return Ok(());
+    };
+    let client = ended.client;
+    let words = format!(in alloc; " client {client} {halt}")?;
+    line.extend_from_slice(words.as_bytes())?;
+    Ok(())
+}
+
+/// Appends what the line of a run by a seed says of the clients that did not come to their ends.
+fn push_all_ended(alloc: Global, line: &mut Vec<u8>, ends: &[Ended]) -> Result<(), OutOfMemory>
+    ensures { OnOk result (line.new.items ≡ line.old.items ++ flat_map ended_text ends.now) }
+{
+    for ended in ends {
+        push_ended(alloc, line, ended)?;
+    }
+    Ok(())
+}
+
+/// The line of a run by a seed.
+fn seed_line(
+    alloc: Global,
+    seed: u64,
+    entries: usize,
+    ends: &[Ended],
+) -> Result<Vec<u8>, OutOfMemory>
+    ensures { IfOk result (λ line. line.items ≡ seed_text seed entries ends.now) }
+{
+    let words = format!(in alloc; "seed {seed} linearizable {entries}")?;
+    let mut line = words.into_bytes();
+    push_all_ended(alloc, &mut line, ends)?;
+    line.push(b'\n')?;
+    Ok(line)
+}
+
+/// What is printed of runs by a plan and each of these seeds.
+fn seeds_text<R: Wait>(
+    rt: &R,
+    alloc: Global,
+    accepted: Arc<Accepted>,
+    plan: &Plan,
+    first: u64,
+    end: u64,
+) -> Result<Vec<u8>, Stop>
+    ensures { IfOk result (λ text. TellsSeeds (development_in (arc_value accepted)) (plan_of plan.now) (end - first) first text.items) }
+{
+    let mut text = Vec::new(alloc);
+    for seed in first..end {
+        let ours = Arc::try_clone(&accepted)?;
+        let ran = run_drawn(rt, alloc, ours, plan, seed)?;
+        let line = seed_line(alloc, seed, ran.log.order.len(), &ran.ends)?;
+        text.extend_from_slice(&line)?;
+    }
+    Ok(text)
+}
+
+/// What runs by a plan, in threads, or drawn from a seed.
+fn ran_with<R: Threads + Wait + Sync>(
+    rt: &R,
+    alloc: Global,
+    accepted: Arc<Accepted>,
+    plan: &Plan,
+    seed: Option<u64>,
+) -> Result<Ran, Stop>
+    ensures { IfOk result (IsRunOf (development_in (arc_value accepted)) plan.now.clients (plan_of plan.now).phases) }
+{
+    match seed {
+        None => run(rt, alloc, accepted, plan),
+        Some(seed) => run_drawn(rt, alloc, accepted, plan, seed),
+    }
+}
+
+/// What is printed of a run by a plan.
+fn text_with<R: Threads + Wait + Sync>(
+    rt: &R,
+    alloc: Global,
+    accepted: Arc<Accepted>,
+    plan: &Plan,
+    seed: Option<u64>,
+) -> Result<Vec<u8>, Stop>
+    ensures { IfOk result (λ text. TellsRun (development_in (arc_value accepted)) (plan_of plan.now) text.items) }
+{
+    let ours = Arc::try_clone(&accepted)?;
+    let ran = ran_with(rt, alloc, accepted, plan, seed)?;
+    Ok(ran_text(alloc, ours.development(), &ran)?)
+}
+
+/// What is printed of a run by a plan, or of several.
+fn text_by<R: Threads + Wait + Sync>(
+    rt: &R,
+    alloc: Global,
+    accepted: Arc<Accepted>,
+    plan: &Plan,
+    turns: Turns,
+) -> Result<Vec<u8>, Stop>
+    ensures { IfOk result (λ text. TellsBy turns (development_in (arc_value accepted)) (plan_of plan.now) text.items) }
+{
+    match turns {
+        Turns::Free => text_with(rt, alloc, accepted, plan, None),
+        Turns::Drawn(seed) => text_with(rt, alloc, accepted, plan, Some(seed)),
+        Turns::DrawnEach(first, end) => seeds_text(rt, alloc, accepted, plan, first, end),
+    }
+}
+
 /// The answer of a run by a plan. If seats do not match, nothing is printed but a line on standard error.
 fn answer_ran<R: Threads + Wait + Sync, E: Write>(
     rt: &R,
     alloc: Global,
     accepted: Accepted,
     plan: &Plan,
+    turns: Turns,
     err: &mut E,
 ) -> Result<Answer, OutOfMemory>
-    ensures { IfOk result (λ answer. RunsSo (development_in accepted) (plan_of plan.now) answer.text.items answer.status) }
+    ensures { IfOk result (λ answer. RunsBy turns (development_in accepted) (plan_of plan.now) answer.text.items answer.status) }
 {
     let accepted = Arc::new(alloc, accepted)?;
-    let ours = Arc::try_clone(&accepted)?;
-    match run(rt, alloc, accepted, plan) {
-        Ok(ran) => Ok(Answer {
-            text: ran_text(alloc, ours.development(), &ran)?,
+    match text_by(rt, alloc, accepted, plan, turns) {
+        Ok(text) => Ok(Answer {
+            text,
             status: SUCCESS,
             why: None,
         }),
@@ -157,13 +268,14 @@ fn answer_planned<'a, R: Threads + Wait + Sync, F: Files, E: Write>(
     files: &mut F,
     accepted: Accepted,
     path: &'a str,
+    turns: Turns,
     err: &mut E,
 ) -> Result<Answer, Failure<'a>>
     ensures unread { F.CannotOpen files.old path.now → IsErr result }
-    ensures answers { IfOk result (λ answer. OfFile (F.bytes_at files.old path.now) (λ file. AnswersPlan (development_in accepted) file answer.text.items answer.status)) }
+    ensures answers { IfOk result (λ answer. OfFile (F.bytes_at files.old path.now) (λ file. AnswersPlan turns (development_in accepted) file answer.text.items answer.status)) }
 {
     match open_plan(alloc, files, accepted.development(), path)? {
-        Ok(plan) => Ok(answer_ran(rt, alloc, accepted, &plan, err)?),
+        Ok(plan) => Ok(answer_ran(rt, alloc, accepted, &plan, turns, err)?),
         Err(answer) => Ok(answer),
     }
 }
@@ -177,13 +289,14 @@ fn answer_proven<'a, R: Threads + Wait + Sync, F: Files, E: Write>(
     development: Development,
     certificate: &'a str,
     plan: &'a str,
+    turns: Turns,
     err: &mut E,
 ) -> Result<Answer, Failure<'a>>
     ensures unread { IsUnreadPlan (F.CannotOpen files.old) (F.bytes_at files.old) (development_view development) certificate.now plan.now → IsErr result }
-    ensures answers { IfOk result (λ answer. OfFile (F.bytes_at files.old certificate.now) (λ file. AnswersProvenRun (development_view development) file (F.bytes_at files.old plan.now) answer.text.items answer.status)) }
+    ensures answers { IfOk result (λ answer. OfFile (F.bytes_at files.old certificate.now) (λ file. AnswersProvenRun turns (development_view development) file (F.bytes_at files.old plan.now) answer.text.items answer.status)) }
 {
     match accept_at(alloc, files, development, certificate)? {
-        Ok(accepted) => answer_planned(rt, alloc, files, accepted, plan, err),
+        Ok(accepted) => answer_planned(rt, alloc, files, accepted, plan, turns, err),
         Err(answer) => Ok(answer),
     }
 }
@@ -197,13 +310,16 @@ pub fn answer_run<'a, R: Threads + Wait + Sync, F: Files, E: Write>(
     development: &'a str,
     certificate: &'a str,
     plan: &'a str,
+    turns: Turns,
     err: &mut E,
 ) -> Result<Answer, Failure<'a>>
-    ensures unread { IsUnread (F.CannotOpen files.old) (F.bytes_at files.old) (RunPlan development.now certificate.now plan.now) → IsErr result }
-    ensures answers { IfOk result (λ answer. AnswersTask (F.bytes_at files.old) (RunPlan development.now certificate.now plan.now) answer.text.items answer.status) }
+    ensures unread { IsUnread (F.CannotOpen files.old) (F.bytes_at files.old) (RunPlan development.now certificate.now plan.now turns) → IsErr result }
+    ensures answers { IfOk result (λ answer. AnswersTask (F.bytes_at files.old) (RunPlan development.now certificate.now plan.now turns) answer.text.items answer.status) }
 {
     match open_development(alloc, files, development)? {
-        Ok(development) => { answer_proven(rt, alloc, files, development, certificate, plan, err) }
+        Ok(development) => {
+            answer_proven(rt, alloc, files, development, certificate, plan, turns, err)
+        }
         Err(answer) => Ok(answer),
     }
 }

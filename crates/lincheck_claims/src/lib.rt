@@ -2,12 +2,13 @@
 //! return something wrong where the call returns what is right.
 #![tactic(auto)]
 
-ghost use Rattle.std.specs.Prelude.{◌≡◌, ◌⊎◌, List, None, Some, codes, false, ℕ};
+ghost use Rattle.std.specs.Prelude.{◌≡◌, ◌⊎◌, Bool, List, None, Some, codes, false, ℕ};
 ghost use Rattle.lc_cond_text.specs.ConditionText.{conditions_text};
 ghost use Rattle.lc_lib_texts.specs.Texts.{development_bytes};
 ghost use Rattle.lc_words.specs.Reading.{AreWrong};
 ghost use Rattle.lc_words.specs.Tasks.{BeginDevelopment, CarryWithHints, CheckByWorkers, CheckCertificate, CheckFormula, DrawHistory, FindOrder, JudgeHistory, ListConditions, MakeWhole, PrintLibrary, ProveWithHints, RunPlan, ShowLines, Task, texts_of};
 ghost use Rattle.lc_words.specs.declared.request.LibraryText.TheVariants.{Development};
+ghost use Rattle.lc_words.specs.declared.request.Turns.{Turns};
 ghost use Rattle.lincheck.specs.Carry.{AnswersCarry, AnswersWith};
 ghost use Rattle.lincheck.specs.Check.{AnswersCheck, AnswersDevelopment};
 ghost use Rattle.lincheck.specs.Complete.{AnswersComplete};
@@ -112,9 +113,11 @@ impl<'a, R: Threads + Wait + Sync> Program<'a, R> {
         self.execute(carried, err)
     }
 
-    /// `run` prints what clients did by a plan, with the number of the entries of an order that linearizes it.
+    /// `run` prints what clients did by a plan, with the number of the entries of an order that linearizes it; with seeds a line for each
+    /// run, in their order.
     pub fn running(&mut self, deeds: &mut Vec<u8>, err: &mut Vec<u8>) -> u8
-        ensures { EndsWith (texts_of self.old.words.now) (RunPlan (codes "a") (codes "b") (codes "c")) (AnswersRun self.old.files.0.now (Some self.old.files.1.now) (Some self.old.files.2.now)) deeds.old.items deeds.new.items result }
+        ensures { (turns : Turns) → EndsWith (texts_of self.old.words.now) (RunPlan (codes "a") (codes "b") (codes "c") turns)
+            (AnswersRun turns self.old.files.0.now (Some self.old.files.1.now) (Some self.old.files.2.now)) deeds.old.items deeds.new.items result }
     {
         self.execute(deeds, err)
     }
@@ -126,9 +129,9 @@ impl<'a, R: Threads + Wait + Sync> Program<'a, R> {
         self.execute(layout, err)
     }
 
-    /// `draw` prints a picture of a history, or the refusal of what is none.
+    /// `draw` prints a picture of a history, or with `--html` a page, or the refusal of what is none.
     pub fn drawing(&mut self, picture: &mut Vec<u8>, err: &mut Vec<u8>) -> u8
-        ensures { EndsWith (texts_of self.old.words.now) (DrawHistory (codes "a") (codes "b")) (AnswersDraw self.old.files.0.now (Some self.old.files.1.now)) picture.old.items picture.new.items result }
+        ensures { (html : Bool) → EndsWith (texts_of self.old.words.now) (DrawHistory (codes "a") (codes "b") html) (AnswersDraw html self.old.files.0.now (Some self.old.files.1.now)) picture.old.items picture.new.items result }
     {
         self.execute(picture, err)
     }

@@ -12,7 +12,7 @@ returns-in-Ok-clause-answers g c =
     let D = development_view c.args.development in
     let known = g.F.Files.bytes_at c.args.files.now c.args.certificate.now in
     let opens = subst (λ (o : Result Accepted Answer). OfFile known (λ file. OpensAccepted D file o)) c.in-Ok.is c.in_ok-accepted.ensures.opens in
-    proven_answered D known (g.F.Files.bytes_at c.args.files.now c.args.plan.now) (g.F.Files.bytes_at c.accept_at.new.files c.args.plan.now) c.in-Ok.accepted c.answer_planned.result opens
+    proven_answered c.args.turns D known (g.F.Files.bytes_at c.args.files.now c.args.plan.now) (g.F.Files.bytes_at c.accept_at.new.files c.args.plan.now) c.in-Ok.accepted c.answer_planned.result opens
     (c.in_ok-accepted.ensures.keeps c.args.plan.now) c.answer_planned.ensures.answers
 
 pub returns-in-Err-clause-answers : goal.returns-in-Err-clause-answers
@@ -20,7 +20,7 @@ returns-in-Err-clause-answers g c =
     let D = development_view c.args.development in
     let known = g.F.Files.bytes_at c.args.files.now c.args.certificate.now in
     let opens = subst (λ (o : Result Accepted Answer). OfFile known (λ file. OpensAccepted D file o)) c.in-Err.is c.in_ok-accepted.ensures.opens in
-    proven_refused D known (g.F.Files.bytes_at c.args.files.now c.args.plan.now) c.in-Err.answer opens
+    proven_refused c.args.turns D known (g.F.Files.bytes_at c.args.files.now c.args.plan.now) c.in-Err.answer opens
 
 pub returns-in-Ok-clause-unread : goal.returns-in-Ok-clause-unread
 returns-in-Ok-clause-unread g c = λ unread.

@@ -13,7 +13,7 @@ returns-in-Ok-clause-answers g c =
     let after = g.F.Files.bytes_at c.open_development.new.files in
     let known = before c.args.development.now in
     let says = subst (λ (o : Result Development Answer). OfFile known (λ file. OpensAs file o)) c.in-Ok.is c.in_ok-development.ensures.opens in
-    run_answered known (before c.args.certificate.now) (after c.args.certificate.now) (before c.args.plan.now) (after c.args.plan.now) (development_view c.in-Ok.development) c.answer_proven.result says
+    run_answered c.args.turns known (before c.args.certificate.now) (after c.args.certificate.now) (before c.args.plan.now) (after c.args.plan.now) (development_view c.in-Ok.development) c.answer_proven.result says
     (c.in_ok-development.ensures.keeps c.args.certificate.now) (c.in_ok-development.ensures.keeps c.args.plan.now) c.answer_proven.ensures.answers
 
 pub returns-in-Err-clause-answers : goal.returns-in-Err-clause-answers
@@ -21,7 +21,7 @@ returns-in-Err-clause-answers g c =
     let before = g.F.Files.bytes_at c.args.files.now in
     let known = before c.args.development.now in
     let tells = subst (λ (o : Result Development Answer). OfFile known (λ file. OpensAs file o)) c.in-Err.is c.in_ok-development.ensures.opens in
-    run_refused known (before c.args.certificate.now) (before c.args.plan.now) c.in-Err.answer tells
+    run_refused c.args.turns known (before c.args.certificate.now) (before c.args.plan.now) c.in-Err.answer tells
 
 pub returns-in-Ok-clause-unread : goal.returns-in-Ok-clause-unread
 returns-in-Ok-clause-unread g c = λ unread.

@@ -5,7 +5,7 @@ use Rattle.lincheck_claims.proofs.AnyFile.{ends_known}
 use Rattle.lincheck_claims.proofs.Program.running.Goals as goal
 
 pub returns : goal.returns
-returns g c = λ ask.
+returns g c = λ turns ask.
     let files = c.args.self.now.files in
-    let task = RunPlan (codes "a") (codes "b") (codes "c") in
-    ends_known task files.0.now (λ f. AnswersRun f (Some files.1.now) (Some files.2.now)) (Some c.args.deeds.now.items) (Some c.execute.new.text.items) c.execute.result (c.execute.ensures task ask)
+    let task = RunPlan (codes "a") (codes "b") (codes "c") turns in
+    ends_known task files.0.now (λ f. AnswersRun turns f (Some files.1.now) (Some files.2.now)) (Some c.args.deeds.now.items) (Some c.execute.new.text.items) c.execute.result (c.execute.ensures task ask)
