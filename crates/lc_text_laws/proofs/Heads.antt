@@ -79,7 +79,7 @@ operations_signed d columns before i (o ∷ os) count all h =
     let names = map (λ (o : Operation). o.name) os in
     let read : IsOperationRead before (operation_tree columns o) o = h.0 in
     let taken : take i d.operations ≡ before = ap (take i) all ∙ names_taken before (o.name ∷ names) i count in (
-      (_, (refl, record { name = refl; arguments = among_names o.arguments; new = ap (list_any (is o.name)) taken ∙ read.new })),
+      (_, refl, record { name = refl; arguments = among_names o.arguments; new = ap (list_any (is o.name)) taken ∙ read.new }),
       operations_signed d columns (before ++ o.name ∷ []) (i + 1) os (omega (arith, length-append before (o.name ∷ []), count)) (all ∙ sym (append_assoc before (o.name ∷ []) names)) h.1,
     )
 

@@ -5,7 +5,6 @@ use Rattle.std.proofs.lemmas.List.{length-map}
 use Rattle.std.specs.Prelude.{codes, ◌&&◌, nat_le, nat_lt, option_map, slice_get, slice_index_or}
 use Rattle.lc_base.specs.declared.ids.ColId.{ColId}
 use Rattle.lc_base.specs.Limits.{depth_limit, condition_limit}
-use Rattle.lc_sexp.specs.Parts.{fits, form_fit}
 use Rattle.lc_sexp.specs.TreeCode.{tree_count}
 use Rattle.lc_sexp.specs.Trees.{Tree, Trees, atom, list, none, ◌▸◌, item_count, item_count_of_all, depth_of_all, row}
 use Rattle.lc_sexp.specs.Reads.{ReadsAs}
@@ -282,7 +281,7 @@ module _ (x : File) (formed : IsFormed x) (v : Values) (are : AreValues (declare
 
   read : IsSpecificationSaid (parts_in (codes "spec") x.spec) v.specification
   read =
-      (holds_of_fine (λ q. (form_fit (codes "spec") x.spec ≡ fits (parts_in (codes "spec") x.spec)) × IsSpecificationSaid (parts_in (codes "spec") x.spec) q) (QT.specification_reading d.declared.columns 0 x.spec) v.specification
+      (holds_of_fine _ (QT.specification_reading d.declared.columns 0 x.spec) v.specification
       (specification_said d.declared.columns 0 x.spec) are.specification).1
 
   ops_behind : later (later (parts_in (codes "spec") x.spec)) ≡ op_trees
