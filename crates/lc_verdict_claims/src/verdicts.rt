@@ -1,10 +1,10 @@
 //! Verdicts on whole files and in pieces, and the proofs of one condition after another.
-ghost use Rattle.std.specs.Prelude.{◌≡◌, ◌≤◌, ◌++◌, ℕ, List, true, IfOk, OnOk, is_err};
+ghost use Rattle.std.specs.Prelude.{◌≡◌, ◌≤◌, ◌++◌, ℕ, List, Ok, true, IfOk, OnOk, is_err};
 ghost use Rattle.lc_base.specs.Limits.{file_limit};
 ghost use Rattle.lc_cert.specs.Certificates.{Entry as Proved};
 ghost use Rattle.lc_check.specs.Answers.{IsBounded, ProvesOne};
 ghost use Rattle.lc_check.specs.Stages.{IsFedOn, is_spent_on};
-ghost use Rattle.lc_check.specs.VerdictView.{IfAccepted, IsCountOn, IsVerdict, IsVerdictOn};
+ghost use Rattle.lc_check.specs.VerdictView.{development_in, IfAccepted, IsCountOn, IsVerdict, IsVerdictOn};
 ghost use Rattle.lc_check.specs.Walking.{HasNext, IsInTurn, IsProvenOn};
 ghost use Rattle.lc_cond.specs.ConditionView.{condition_in, IsCondition};
 ghost use Rattle.lc_kernel.specs.Proofs.{size};
@@ -17,7 +17,9 @@ ghost use Rattle.lc_sound.specs.Linearizable.{IsLinearizableObject};
 ghost use Rattle.lc_table.specs.Tables.{Keeps};
 
 use lc_base::{Fault, OutOfMemory};
-use lc_check::{Alone, CertificateSession, Prover, Verdict, Walk, check, prove_one, proven_count};
+use lc_check::{
+    Accepted, Alone, CertificateSession, Prover, Verdict, Walk, check, prove_one, proven_count,
+};
 use lc_cond::Condition;
 use lc_kernel::Proof;
 use lc_outline::Development;
@@ -37,6 +39,15 @@ pub fn counting(alloc: Global, development: &Development, cert: &[u8]) -> Result
     ensures { IsCountOn (development_view development.now) cert.now result }
 {
     proven_count(alloc, development, cert)
+}
+
+/// A development each of whose conditions a certificate file proves is accepted, and its object is linearizable.
+pub fn accepting(development: Development, count: u64) -> Accepted
+    requires { (cert : List ℕ) × IsCountOn (development_view development) cert (Ok count) }
+    ensures shown { development_in result ≡ development_view development }
+    ensures linearizable { IsLinearizableObject (development_view development).specification (development_view development).object }
+{
+    Accepted::proven(development, count)
 }
 
 /// A piece of a certificate is taken after those that were fed before. After `OutOfMemory` no piece is taken.
