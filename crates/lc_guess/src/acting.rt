@@ -1,46 +1,25 @@
 //! The action of an edge: what its instruction and its riders store, in words of the state before.
 use crate::code::{Edge, Point};
-use crate::marking::write_riders;
+use crate::fact::{Basis, Fact};
+use crate::formula::{MARKS, cell_at, holds};
+use crate::marking::{TAKER, put_riders};
 use crate::object::Object;
 use crate::phases::Phase;
-use crate::said::{Known, Scope};
-use crate::signature::{Operation, Operations};
-use crate::text::{
-    MARKS, each_item, first_text, items_within, later, lists, mentions, text_of, within_first,
-};
+use crate::said::{KnownCell, PARAMETERS, Scope};
+use crate::seen::Body;
+use crate::stores::{Stored, Stores};
+use crate::text::{each_cell, first_part, first_text, later, lists, text_of, within_first};
 use lc_base::OutOfMemory;
-use lc_reading::{NameTable, Part};
+use lc_reading::Part;
 use lc_sexp::Cursor;
 use std::alloc::Global;
-
-/// What the points of a body are looked at with.
-#[derive(Clone, Copy)]
-pub(crate) struct Body<'a, 'b> {
-    pub(crate) operation: Operation<'a>,
-    pub(crate) operations: &'b Operations<'a>,
-    /// The names of its locals.
-    pub(crate) locals: &'b NameTable<'a>,
-    pub(crate) object: &'b Object<'a>,
-}
 
 /// What is stored at an edge, as far as it is known.
 #[derive(Drop)]
 pub(crate) struct Deeds<'a> {
-    pub(crate) text: String,
-    /// The columns in which something is stored.
-    pub(crate) columns: Vec<&'a str>,
-}
-
-impl Deeds<'_> {
-    /// Whether these items read a column in which something is stored.
-    pub(crate) fn has_stored(&self, list: Cursor<'_>) -> bool {
-        for column in &self.columns {
-            if mentions(list, column) {
-                return true;
-            }
-        }
-        false
-    }
+    pub(crate) stores: Stores<'a>,
+    /// A term that is 0 just where what is stored last is taken back, if anything is.
+    pub(crate) switch: Option<String>,
 }
 
 /// An action with its call, both as text.
@@ -54,8 +33,8 @@ pub(crate) struct Guessed {
 #[derive(Clone, Copy)]
 pub(crate) struct Standing<'a, 'b> {
     pub(crate) phase: Phase,
-    /// What is asserted beside what the file asserts.
-    pub(crate) facts: &'b [String],
+    /// What is asserted, as far as it may be of use in a guard.
+    pub(crate) facts: &'b [Fact],
     /// The terms that are returned if the call goes on by an edge.
     pub(crate) returned: Cursor<'a>,
 }
@@ -68,15 +47,16 @@ fn know_row<'a>(
     locals: Cursor<'a>,
 ) -> Result<(), OutOfMemory> {
     let name = text_of(index);
-    if name.is_empty() || lists(locals, name) {
+    let is_set = scope.locals.contains(name) && lists(locals, name);
+    if name.is_empty() || is_set {
         return Ok(());
     }
-    for (local, column) in each_item(locals).zip(each_item(columns)) {
-        let local_name = text_of(local);
-        if scope.locals.contains(local_name) {
-            scope.known.push(Known {
-                name: local_name,
-                column: first_text(items_within(column)),
+    for (column, local) in each_cell(columns, locals) {
+        let local = text_of(local);
+        if scope.locals.contains(local) {
+            scope.known.push(KnownCell {
+                name: local,
+                column,
                 index: name,
             })?;
         }
@@ -84,8 +64,9 @@ fn know_row<'a>(
     Ok(())
 }
 
-/// Writes `(COLUMN INDEX VALUE)` for each cell of a row: these values, or these added to what is there.
-fn write_row_stored<'a>(
+/// Stores in each cell of a row these values, or these added to what is there.
+fn put_row<'a>(
+    alloc: Global,
     deeds: &mut Deeds<'a>,
     scope: &mut Scope<'a, '_>,
     columns: Cursor<'a>,
@@ -93,30 +74,24 @@ fn write_row_stored<'a>(
     values: Cursor<'a>,
     is_added: bool,
 ) -> Result<(), OutOfMemory> {
-    for (value, column) in each_item(values).zip(each_item(columns)) {
-        let name = first_text(items_within(column));
-        let out = &mut deeds.text;
-        out.push_str(" (")?;
-        out.push_str(name)?;
-        out.push_str(" ")?;
-        scope.write(out, index)?;
+    for (column, value) in each_cell(columns, values) {
+        let index = scope.said(index)?;
+        let mut value = scope.said(value)?;
         if is_added {
-            out.push_str(" (+ (rd ")?;
-            out.push_str(name)?;
-            out.push_str(" ")?;
-            scope.write(out, index)?;
-            out.push_str(")")?;
+            value = format!(in alloc; "(+ (rd {column} {index}) {value})")?;
         }
-        out.push_str(" ")?;
-        scope.write(out, value)?;
-        out.push_str(if is_added { "))" } else { ")" })?;
-        deeds.columns.push(name)?;
+        deeds.stores.put(Stored {
+            column,
+            index,
+            value,
+        })?;
     }
     Ok(())
 }
 
-/// Writes what an instruction stores at an edge, and notes which locals are cells there.
-fn write_stored<'a>(
+/// Puts in what an instruction stores at an edge, and notes which locals are cells there.
+fn put_stored<'a>(
+    alloc: Global,
     deeds: &mut Deeds<'a>,
     scope: &mut Scope<'a, '_>,
     object: &Object<'a>,
@@ -127,53 +102,124 @@ fn write_stored<'a>(
     let behind = later(point.code);
     let first = within_first(later(behind));
     let second = within_first(later(later(behind)));
-    for index in each_item(behind).take(1) {
-        match (point.word, edge) {
-            ("load", _) => know_row(scope, columns, index, first)?,
-            ("store", _) => write_row_stored(deeds, scope, columns, index, first, false)?,
-            ("faa", _) => {
-                write_row_stored(deeds, scope, columns, index, second, true)?;
-                know_row(scope, columns, index, first)?;
-            }
-            ("cas", "then") => {
-                know_row(scope, columns, index, first)?;
-                write_row_stored(deeds, scope, columns, index, second, false)?;
-            }
-            _ => {}
+    let Some(index) = first_part(behind) else {
+        return Ok(());
+    };
+    match (point.word, edge) {
+        ("load", _) => know_row(scope, columns, index, first),
+        ("store", _) => put_row(alloc, deeds, scope, columns, index, first, false),
+        ("faa", _) => {
+            put_row(alloc, deeds, scope, columns, index, second, true)?;
+            know_row(scope, columns, index, first)
         }
+        ("cas", "then") => {
+            know_row(scope, columns, index, first)?;
+            put_row(alloc, deeds, scope, columns, index, second, false)
+        }
+        _ => Ok(()),
     }
-    Ok(())
 }
 
-/// Whether all locals in a text were said.
+/// Whether each local in a text is a parameter, or known to be a cell.
 fn is_said(scope: &Scope<'_, '_>, text: &str) -> bool {
     for word in text.split(MARKS) {
-        if scope.locals.contains(word) && !scope.used.contains(&word) {
+        let is_parameter = scope.used.contains(&word);
+        if scope.locals.contains(word) && !is_parameter && !scope.is_cell(word) {
             return false;
         }
     }
     true
 }
 
-/// Writes the guard: what is known of the call and of what was said.
-fn write_guard(
+/// Whether a formula compares a cell, which a local is known to be, with itself.
+fn is_trivial(alloc: Global, scope: &Scope<'_, '_>, formula: &str) -> Result<bool, OutOfMemory> {
+    for known in &scope.known {
+        let cell = cell_at(alloc, known.column, known.index)?;
+        let same = format!(in alloc; "{cell} {cell})")?;
+        for word in ["(= ", "(<= "] {
+            if formula.strip_prefix(word) == Some(same.as_str()) {
+                return Ok(true);
+            }
+        }
+    }
+    Ok(false)
+}
+
+/// Writes a fact of parameters and cells, as far as it says anything.
+fn write_fact(
+    alloc: Global,
     out: &mut String,
     scope: &Scope<'_, '_>,
-    standing: Standing<'_, '_>,
+    fact: &Fact,
 ) -> Result<(), OutOfMemory> {
-    out.push_str(match standing.phase {
-        Phase::Called => "(and (= (rd pend self) 1)",
-        Phase::Marked => "(and (= (rd pend self) 2)",
-        _ => "(and",
-    })?;
+    let mut premise = String::new(alloc);
+    scope.write_text(&mut premise, &fact.premise)?;
+    let mut claim = String::new(alloc);
+    scope.write_text(&mut claim, &fact.claim)?;
+    if is_trivial(alloc, scope, &claim)? {
+        return Ok(());
+    }
+    if is_trivial(alloc, scope, &premise)? {
+        premise = String::new(alloc);
+    }
+    let said = Fact::under(alloc, premise, claim, fact.basis);
+    out.push_str(" ")?;
+    out.push_str(&said.text(alloc)?)?;
+    Ok(())
+}
+
+/// Writes what a `cas` finds in the cells in which it expects no locals.
+fn write_expected<'a>(
+    alloc: Global,
+    out: &mut String,
+    scope: &mut Scope<'a, '_>,
+    object: &Object<'a>,
+    point: &Point<'a>,
+) -> Result<(), OutOfMemory> {
+    let columns = object.columns_of(first_text(point.code));
+    let behind = later(point.code);
+    let expected = within_first(later(behind));
+    for (column, term) in each_cell(columns, expected) {
+        if scope.locals.contains(text_of(term)) {
+            continue;
+        }
+        let index = scope.said_first(behind)?;
+        let term = scope.said(term)?;
+        out.push_str(" ")?;
+        out.push_str(&holds(alloc, column, &index, &term)?)?;
+    }
+    Ok(())
+}
+
+/// The guard: what is known of the call, of what is said, and of cells.
+fn guard_of<'a>(
+    alloc: Global,
+    scope: &mut Scope<'a, '_>,
+    object: &Object<'a>,
+    point: &Point<'a>,
+    edge: &Edge<'a>,
+    standing: Standing<'_, '_>,
+) -> Result<String, OutOfMemory> {
+    let is_pending = object.is_helped && standing.phase == Phase::Called;
+    let mut out = String::from_str(
+        alloc,
+        if is_pending {
+            "(and (= (rd pend self) 1)"
+        } else {
+            "(and"
+        },
+    )?;
+    if point.word == "cas" && edge.word == "then" {
+        write_expected(alloc, &mut out, scope, object, point)?;
+    }
     for fact in standing.facts {
-        if is_said(scope, fact) {
-            out.push_str(" ")?;
-            scope.write_text(out, fact)?;
+        let is_own = matches!(fact.basis, Basis::Noted | Basis::Posted);
+        if !is_own && is_said(scope, &fact.premise) && is_said(scope, &fact.claim) {
+            write_fact(alloc, &mut out, scope, fact)?;
         }
     }
     out.push_str(")")?;
-    Ok(())
+    Ok(out)
 }
 
 /// The name of the action of an edge.
@@ -197,8 +243,8 @@ fn written(
     alloc: Global,
     name: &str,
     scope: &Scope<'_, '_>,
-    standing: Standing<'_, '_>,
-    stored: &str,
+    guard: &str,
+    deeds: &Deeds<'_>,
 ) -> Result<Guessed, OutOfMemory> {
     let mut call = String::from_str(alloc, name)?;
     let mut action = String::from_str(alloc, "(action ")?;
@@ -212,11 +258,23 @@ fn written(
         call.push_str(local)?;
         gap = " ";
     }
+    if let Some(switch) = &deeds.switch {
+        action.push_str(gap)?;
+        action.push_str(TAKER)?;
+        call.push_str(" (+ self ")?;
+        call.push_str(switch)?;
+        call.push_str(")")?;
+    }
     action.push_str(") ")?;
-    write_guard(&mut action, scope, standing)?;
-    action.push_str(stored)?;
+    action.push_str(guard)?;
+    deeds.stores.write(&mut action)?;
     action.push_str(")")?;
     Ok(Guessed { action, call })
+}
+
+/// Whether an action has a parameter left for what takes back, if anything does.
+fn has_room(scope: &Scope<'_, '_>, deeds: &Deeds<'_>) -> bool {
+    deeds.switch.is_none() || scope.used.len() < PARAMETERS
 }
 
 /// The action of an edge, if it is known what is stored there.
@@ -230,21 +288,23 @@ pub(crate) fn action_of<'a>(
     let arguments = body.operation.arguments;
     let mut scope = Scope::new(alloc, arguments, "self", body.locals)?;
     let mut deeds = Deeds {
-        text: String::new(alloc),
-        columns: Vec::new(alloc),
+        stores: Stores::new(alloc),
+        switch: None,
     };
-    write_stored(&mut deeds, &mut scope, body.object, point, edge.word)?;
+    put_stored(alloc, &mut deeds, &mut scope, body.object, point, edge.word)?;
     scope.lost = Vec::from_slice(alloc, &point.sets)?;
     let riders = edge.riders;
     let returned = standing.returned;
-    let is_known = write_riders(alloc, &mut scope, &mut deeds, body, riders, returned)?;
-    if !is_known || scope.is_unsaid {
+    let is_known = put_riders(alloc, &mut scope, &mut deeds, body, point, riders, returned)?;
+    if !is_known || scope.is_unsaid || !has_room(&scope, &deeds) {
         return Ok(None);
     }
     let name = name_of(alloc, body, point, edge)?;
     if body.object.actions.contains(name.as_str()) {
         return Ok(None);
     }
-    let guessed = written(alloc, &name, &scope, standing, &deeds.text)?;
+    scope.set_stores(Stores::new(alloc));
+    let guard = guard_of(alloc, &mut scope, body.object, point, edge, standing)?;
+    let guessed = written(alloc, &name, &scope, &guard, &deeds)?;
     Ok(Some(guessed))
 }

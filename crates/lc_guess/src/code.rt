@@ -1,5 +1,8 @@
 //! Points with their edges.
-use crate::text::{MARKS, each_item, first_text, items_within, later, text_of, within_first};
+use crate::formula::MARKS;
+use crate::text::{
+    each_item, first_text, items_within, later, mentions, printed_first, text_of, within_first,
+};
 use lc_base::OutOfMemory;
 use lc_reading::{NameTable, Part, behind_word};
 use lc_sexp::Cursor;
@@ -254,5 +257,15 @@ impl<'a> Point<'a> {
             }
         }
         false
+    }
+
+    /// The index of its instruction.
+    pub(crate) fn index(&self, alloc: Global) -> Result<String, OutOfMemory> {
+        printed_first(alloc, later(self.code))
+    }
+
+    /// Whether it stores the number of the client at an edge.
+    pub(crate) fn posts(&self, edge: &Edge<'_>) -> bool {
+        stores(self.word, edge.word) && mentions(self.code, "self")
     }
 }

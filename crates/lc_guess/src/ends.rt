@@ -1,8 +1,9 @@
 //! What is returned if a call goes on from a point.
 use crate::code::{PASSES, Point};
-use crate::text::{each_item, items_within, mentions, text_of};
+use crate::text::{each_numbered, items_within, mentions, printed_first, text_of};
 use lc_base::OutOfMemory;
 use lc_reading::Part;
+use lc_sexp::Cursor;
 use std::alloc::Global;
 
 /// At which return a call ends, by its place, and which of the terms there have the same numbers before.
@@ -54,14 +55,12 @@ fn before(points: &[Point<'_>], point: &Point<'_>, end: End) -> End {
         return end;
     };
     let mut stays = end.stays;
-    let mut place = 0usize;
-    for term in each_item(last.code) {
+    for (place, term) in each_numbered(last.code) {
         if changes(point, term)
             && let Some(stay) = stays.get_mut(place)
         {
             *stay = false;
         }
-        place = place.saturating_add(1);
     }
     End { stays, ..end }
 }
@@ -116,4 +115,52 @@ pub(crate) fn find_ends(alloc: Global, points: &[Point<'_>]) -> Result<Vec<Ahead
     }
     found.fill(Ahead::Several);
     Ok(found)
+}
+
+/// How a call goes on.
+#[derive(Clone, Copy)]
+pub(crate) struct Ways<'a, 'b> {
+    pub(crate) points: &'b [Point<'a>],
+    pub(crate) ends: &'b [Ahead],
+}
+
+/// The point after one, where this condition holds, if there is only one.
+fn after<'a>(
+    alloc: Global,
+    point: &Point<'a>,
+    condition: &str,
+) -> Result<Option<usize>, OutOfMemory> {
+    let is_decided = point.word == "if" && printed_first(alloc, point.code)?.as_str() == condition;
+    match (point.edges.first(), point.edges.len()) {
+        (Some(edge), 1) => Ok(edge.next),
+        (Some(edge), _) if is_decided => Ok(edge.next),
+        _ => Ok(None),
+    }
+}
+
+impl<'a> Ways<'a, '_> {
+    /// The terms that are returned from a point on, where this condition holds; none if it may be at several returns.
+    pub(crate) fn returned(
+        self,
+        alloc: Global,
+        start: Option<usize>,
+        condition: &str,
+    ) -> Result<Cursor<'a>, OutOfMemory> {
+        let mut next = start;
+        for _ in 0..PASSES {
+            let Some(place) = next else {
+                return Ok(Cursor::empty());
+            };
+            if let Some(Ahead::End(end)) = self.ends.get(place)
+                && let Some(last) = self.points.get(end.place)
+            {
+                return Ok(last.code);
+            }
+            next = match self.points.get(place) {
+                Some(point) => after(alloc, point, condition)?,
+                None => None,
+            };
+        }
+        Ok(Cursor::empty())
+    }
 }

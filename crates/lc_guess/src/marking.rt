@@ -1,12 +1,22 @@
 //! What riders store, said as an action says it.
-use crate::acting::{Body, Deeds};
-use crate::said::{Given, Scope, write_updates};
+use crate::acting::Deeds;
+use crate::code::Point;
+use crate::formula::cell_at;
+use crate::said::{Given, Scope};
+use crate::seen::Body;
 use crate::signature::{Branch, Operation};
-use crate::text::{each_item, first_text, items_within, later, text_of};
+use crate::stores::Stored;
+use crate::switching::switch_at;
+use crate::text::{
+    each_item, each_numbered, first_text, items_within, later, printed_first, text_of, within_first,
+};
 use lc_base::OutOfMemory;
 use lc_reading::{NameTable, Part};
 use lc_sexp::Cursor;
 use std::alloc::Global;
+
+/// The parameter of an action that takes back what it stores for a client: that client, or another one, of whom all stays as it is.
+pub(crate) const TAKER: &str = "j";
 
 /// A mark of a call.
 struct Mark<'a> {
@@ -32,7 +42,7 @@ impl Drop for Mark<'_> {
     }
 }
 
-/// The system's column of the reply of this place, or of the one that is noted.
+/// The system's column of a reply, by its place, or of one that is noted.
 pub(crate) fn reply_column(place: usize, is_note: bool) -> &'static str {
     match (place, is_note) {
         (0, false) => "rep1",
@@ -52,8 +62,7 @@ fn given_for<'a>(
 ) -> Result<Vec<Given<'a>>, OutOfMemory> {
     let mut given = Vec::new(alloc);
     for (parameter, term) in each_item(mark.branch.parameters).zip(each_item(mark.terms)) {
-        let mut text = String::new(alloc);
-        scope.write(&mut text, term)?;
+        let text = scope.said(term)?;
         given.push(Given {
             name: text_of(parameter),
             text,
@@ -62,60 +71,53 @@ fn given_for<'a>(
     Ok(given)
 }
 
-/// Writes the replies of a mark: `(rep1 CLIENT T) ..`.
-fn write_replies<'a>(
-    out: &mut String,
+/// What a mark stores, with terms said by the scope of its call.
+fn stored_by<'a>(
+    alloc: Global,
     own: &mut Scope<'a, '_>,
     mark: &Mark<'a>,
-) -> Result<(), OutOfMemory> {
-    let mut place = 0usize;
-    for part in each_item(mark.branch.replies) {
-        out.push_str(" (")?;
-        out.push_str(reply_column(place, mark.is_note))?;
-        out.push_str(" ")?;
-        out.push_str(&mark.client)?;
-        out.push_str(" ")?;
-        own.write(out, part)?;
-        out.push_str(")")?;
-        place = place.saturating_add(1);
+) -> Result<Vec<Stored<'a>>, OutOfMemory> {
+    let mut stored = Vec::new(alloc);
+    for update in each_item(mark.branch.updates) {
+        stored.push(own.said_update(items_within(update))?)?;
     }
-    Ok(())
+    for (place, reply) in each_numbered(mark.branch.replies) {
+        stored.push(Stored {
+            column: reply_column(place, mark.is_note),
+            index: mark.client.clone()?,
+            value: own.said(reply)?,
+        })?;
+    }
+    stored.push(Stored {
+        column: if mark.is_note { "noted" } else { "pend" },
+        index: mark.client.clone()?,
+        value: String::from_str(alloc, if mark.is_note { "1" } else { "2" })?,
+    })?;
+    Ok(stored)
 }
 
-/// Writes that a call is marked, or that its replies are noted.
-fn write_settled(out: &mut String, mark: &Mark<'_>) -> Result<(), OutOfMemory> {
-    out.push_str(if mark.is_note { " (noted " } else { " (pend " })?;
-    out.push_str(&mark.client)?;
-    out.push_str(if mark.is_note { " 1)" } else { " 2)" })?;
-    Ok(())
-}
-
-/// Writes what a mark stores, and reports whether it is known what that is.
-fn write_mark<'a>(
+/// Puts in what a mark stores: that its call is marked, or that its replies are noted.
+fn put_mark<'a>(
     alloc: Global,
     scope: &mut Scope<'a, '_>,
     deeds: &mut Deeds<'a>,
     mark: &Mark<'a>,
-) -> Result<bool, OutOfMemory> {
-    if deeds.has_stored(mark.branch.updates) || deeds.has_stored(mark.branch.replies) {
-        return Ok(false);
-    }
+) -> Result<(), OutOfMemory> {
     let given = given_for(alloc, scope, mark)?;
     let none = NameTable::new(alloc);
     let mut own = Scope::new(alloc, mark.operation.arguments, &mark.client, &none)?;
     own.given = given;
-    write_updates(&mut deeds.text, &mut own, mark.branch.updates)?;
-    write_replies(&mut deeds.text, &mut own, mark)?;
-    write_settled(&mut deeds.text, mark)?;
-    for update in each_item(mark.branch.updates) {
-        deeds.columns.push(first_text(items_within(update)))?;
+    own.set_stores(deeds.stores.copy(alloc)?);
+    let stored = stored_by(alloc, &mut own, mark)?;
+    scope.is_unsaid = scope.is_unsaid || own.is_unsaid;
+    for one in stored {
+        deeds.stores.put(one)?;
     }
-    deeds.columns.push("pend")?;
-    Ok(true)
+    Ok(())
 }
 
 /// The branch of a mark: of the choice that it names, or the only one that may be what is returned.
-fn branch_of<'a>(
+pub(crate) fn branch_of<'a>(
     operation: Operation<'a>,
     choice: Option<&str>,
     returned: Cursor<'_>,
@@ -123,6 +125,15 @@ fn branch_of<'a>(
     match choice {
         Some(name) => operation.choice(name),
         None => operation.only_branch(returned),
+    }
+}
+
+/// The choice that is the first of these items, if a mark names one.
+fn choice_in(rest: Cursor<'_>, is_named: bool) -> Option<&str> {
+    if is_named {
+        Some(first_text(rest))
+    } else {
+        None
     }
 }
 
@@ -135,11 +146,7 @@ fn own_mark<'a>(
     is_note: bool,
     returned: Cursor<'_>,
 ) -> Result<Option<Mark<'a>>, OutOfMemory> {
-    let choice = if is_named {
-        Some(first_text(rest))
-    } else {
-        None
-    };
+    let choice = choice_in(rest, is_named);
     let Some(branch) = branch_of(body.operation, choice, returned) else {
         return Ok(None);
     };
@@ -164,18 +171,11 @@ fn other_mark<'a>(
     let Some(operation) = body.operations.named(first_text(behind)) else {
         return Ok(None);
     };
-    let choice = if is_named {
-        Some(first_text(later(behind)))
-    } else {
-        None
-    };
+    let choice = choice_in(later(behind), is_named);
     let Some(branch) = branch_of(operation, choice, Cursor::empty()) else {
         return Ok(None);
     };
-    let mut client = String::new(alloc);
-    for part in each_item(rest).take(1) {
-        scope.write(&mut client, part)?;
-    }
+    let client = scope.said_first(rest)?;
     Ok(Some(Mark {
         operation,
         branch,
@@ -185,62 +185,114 @@ fn other_mark<'a>(
     }))
 }
 
-/// Writes what a rider `set` stores, and reports whether it is known what that is.
-fn write_set<'a>(
-    scope: &mut Scope<'a, '_>,
-    deeds: &mut Deeds<'a>,
-    update: Cursor<'a>,
-) -> Result<bool, OutOfMemory> {
-    if deeds.has_stored(later(update)) {
-        return Ok(false);
+/// The mark of the own call that a rider is, if it is one.
+fn mark_in<'a>(
+    alloc: Global,
+    body: Body<'a, '_>,
+    rider: Cursor<'a>,
+    returned: Cursor<'_>,
+) -> Result<Option<Mark<'a>>, OutOfMemory> {
+    let rest = later(rider);
+    match first_text(rider) {
+        "lin" => own_mark(alloc, body, rest, false, false, returned),
+        "lin-by" => own_mark(alloc, body, rest, true, false, returned),
+        "note" => own_mark(alloc, body, rest, false, true, returned),
+        "note-by" => own_mark(alloc, body, rest, true, true, returned),
+        _ => Ok(None),
     }
-    deeds.text.push_str(" (")?;
-    deeds.text.push_str(first_text(update))?;
-    deeds.text.push_str(" ")?;
-    scope.write_row(&mut deeds.text, later(update))?;
-    deeds.text.push_str(")")?;
-    deeds.columns.push(first_text(update))?;
-    Ok(true)
 }
 
-/// Writes what a rider stores, and reports whether it is known what that is. Of one with a condition it is not.
-fn write_rider<'a>(
+/// Puts in that a cell of a client stays what it was.
+fn put_unchanged<'a>(
+    alloc: Global,
+    deeds: &mut Deeds<'a>,
+    column: &'a str,
+) -> Result<(), OutOfMemory> {
+    deeds.stores.put(Stored {
+        column,
+        index: String::from_str(alloc, TAKER)?,
+        value: cell_at(alloc, column, TAKER)?,
+    })
+}
+
+/// Puts in that what a mark without updates stores is taken back, where the parameter is the client.
+fn take_back<'a>(alloc: Global, deeds: &mut Deeds<'a>, mark: &Mark<'a>) -> Result<(), OutOfMemory> {
+    for (place, _) in each_numbered(mark.branch.replies) {
+        put_unchanged(alloc, deeds, reply_column(place, mark.is_note))?;
+    }
+    put_unchanged(alloc, deeds, if mark.is_note { "noted" } else { "pend" })
+}
+
+/// Puts in what a mark under a condition stores, with what takes it back, and reports whether it is known what that is.
+fn put_when<'a>(
     alloc: Global,
     scope: &mut Scope<'a, '_>,
     deeds: &mut Deeds<'a>,
     body: Body<'a, '_>,
+    point: &Point<'a>,
+    rest: Cursor<'a>,
+    returned: Cursor<'_>,
+) -> Result<bool, OutOfMemory> {
+    let Some(mark) = mark_in(alloc, body, within_first(later(rest)), returned)? else {
+        return Ok(false);
+    };
+    if !mark.branch.updates.is_empty() || deeds.switch.is_some() || scope.locals.contains(TAKER) {
+        return Ok(false);
+    }
+    let condition = printed_first(alloc, rest)?;
+    deeds.switch = switch_at(alloc, body.object, point, &condition)?;
+    if deeds.switch.is_none() {
+        return Ok(false);
+    }
+    put_mark(alloc, scope, deeds, &mark)?;
+    take_back(alloc, deeds, &mark)?;
+    Ok(true)
+}
+
+/// Puts in what a rider stores, and reports whether it is known what that is.
+fn put_rider<'a>(
+    alloc: Global,
+    scope: &mut Scope<'a, '_>,
+    deeds: &mut Deeds<'a>,
+    body: Body<'a, '_>,
+    point: &Point<'a>,
     rider: Part<'a>,
     returned: Cursor<'_>,
 ) -> Result<bool, OutOfMemory> {
     let parts = items_within(rider);
     let rest = later(parts);
+    scope.set_stores(deeds.stores.copy(alloc)?);
     let mark = match first_text(parts) {
-        "set" => return write_set(scope, deeds, rest),
-        "lin" => own_mark(alloc, body, rest, false, false, returned)?,
-        "lin-by" => own_mark(alloc, body, rest, true, false, returned)?,
-        "note" => own_mark(alloc, body, rest, false, true, returned)?,
-        "note-by" => own_mark(alloc, body, rest, true, true, returned)?,
+        "set" => {
+            deeds.stores.put(scope.said_update(rest)?)?;
+            return Ok(true);
+        }
+        "when" => return put_when(alloc, scope, deeds, body, point, rest, returned),
         "lin-other" => other_mark(alloc, scope, body, rest, false)?,
         "lin-other-by" => other_mark(alloc, scope, body, rest, true)?,
-        _ => None,
+        _ => mark_in(alloc, body, parts, returned)?,
     };
     match mark {
-        Some(mark) => write_mark(alloc, scope, deeds, &mark),
+        Some(mark) => {
+            put_mark(alloc, scope, deeds, &mark)?;
+            Ok(true)
+        }
         None => Ok(false),
     }
 }
 
-/// Writes what riders store, where these terms are returned if the call goes on, and reports whether it is known what that is.
-pub(crate) fn write_riders<'a>(
+/// Puts in what riders store, where these terms are returned if the call goes on, and reports whether it is known what that is.
+pub(crate) fn put_riders<'a>(
     alloc: Global,
     scope: &mut Scope<'a, '_>,
     deeds: &mut Deeds<'a>,
     body: Body<'a, '_>,
+    point: &Point<'a>,
     riders: Cursor<'a>,
     returned: Cursor<'_>,
 ) -> Result<bool, OutOfMemory> {
     for rider in each_item(riders) {
-        if !write_rider(alloc, scope, deeds, body, rider, returned)? {
+        if !put_rider(alloc, scope, deeds, body, point, rider, returned)? {
             return Ok(false);
         }
     }

@@ -1,7 +1,8 @@
 //! What is looked at of an object.
+use crate::changes::{Change, Column, find_columns, is_of_bits};
 use crate::text::{each_item, first_text, items_within, later, mentions, push_parts};
 use lc_base::OutOfMemory;
-use lc_reading::{NameTable, Part};
+use lc_reading::{NameTable, Part, behind_word};
 use lc_sexp::Cursor;
 use std::alloc::Global;
 
@@ -12,11 +13,16 @@ const LONGEST_CLAIM: usize = 256;
 
 /// An object.
 pub(crate) struct Object<'a> {
+    pub(crate) parts: Cursor<'a>,
+    /// How the cells of its arrays are changed.
+    changes: Vec<Column<'a>>,
     arrays: NameTable<'a>,
     /// The columns of each array: `(COL A B) ..`.
     columns: Vec<Cursor<'a>>,
     /// What the invariant claims, one after the other, of the beginning of it.
     pub(crate) claims: Vec<String>,
+    /// The claims for all numbers, `V F`, of the beginning of it.
+    pub(crate) general: Vec<Cursor<'a>>,
     /// The names of the actions that it declares.
     pub(crate) actions: NameTable<'a>,
     /// Whether clients mark calls of others.
@@ -26,13 +32,28 @@ pub(crate) struct Object<'a> {
 impl Drop for Object<'_> {
     fn drop(self) {
         let Object {
+            parts: _,
+            changes: _,
             arrays: _,
             columns: _,
             claims: _,
+            general: _,
             actions: _,
             is_helped: _,
         } = self;
     }
+}
+
+/// Appends what a conjunct `(NAME F)` claims for all numbers.
+fn push_general<'a>(general: &mut Vec<Cursor<'a>>, conjunct: Part<'a>) -> Result<(), OutOfMemory> {
+    for formula in each_item(later(items_within(conjunct))) {
+        if let Ok(claim) = behind_word(formula, "forall")
+            && general.len() < MOST_CLAIMS
+        {
+            general.push(claim)?;
+        }
+    }
+    Ok(())
 }
 
 /// Appends what a conjunct `(NAME F)` claims.
@@ -59,6 +80,7 @@ impl<'a> Object<'a> {
         let mut arrays = NameTable::new(alloc);
         let mut columns = Vec::new(alloc);
         let mut claims = Vec::new(alloc);
+        let mut general = Vec::new(alloc);
         let mut actions = NameTable::new(alloc);
         for part in each_item(parts) {
             let inside = items_within(part);
@@ -72,6 +94,7 @@ impl<'a> Object<'a> {
                 "invariant" => {
                     for conjunct in each_item(behind) {
                         push_claims(alloc, &mut claims, conjunct)?;
+                        push_general(&mut general, conjunct)?;
                     }
                 }
                 _ => {}
@@ -79,9 +102,12 @@ impl<'a> Object<'a> {
         }
         let is_helped = mentions(parts, "lin-other") || mentions(parts, "lin-other-by");
         Ok(Object {
+            parts,
+            changes: find_columns(alloc, parts)?,
             arrays,
             columns,
             claims,
+            general,
             actions,
             is_helped,
         })
@@ -96,5 +122,31 @@ impl<'a> Object<'a> {
             },
             None => Cursor::empty(),
         }
+    }
+
+    /// How the cells of a column of an array are changed.
+    pub(crate) fn change(&self, name: &str) -> Change {
+        for column in &self.changes {
+            if column.name == name {
+                return column.change;
+            }
+        }
+        Change::Other
+    }
+
+    /// Whether each cell of a column is 0 or 1.
+    pub(crate) fn is_of_bits(&self, name: &str) -> bool {
+        is_of_bits(self.parts, name)
+    }
+
+    /// The names of its auxiliary columns: `(COL A B) ..`.
+    pub(crate) fn auxiliary(&self) -> Cursor<'a> {
+        for part in each_item(self.parts) {
+            let inside = items_within(part);
+            if first_text(inside) == "aux" {
+                return later(inside);
+            }
+        }
+        Cursor::empty()
     }
 }

@@ -1,5 +1,5 @@
 //! At which points a client's call is marked.
-use crate::code::{Edge, PASSES, Point};
+use crate::code::{PASSES, Point};
 use crate::text::{each_item, first_text, items_within, later, within_first};
 use lc_base::OutOfMemory;
 use lc_sexp::Cursor;
@@ -46,14 +46,19 @@ fn behind(before: Phase, riders: Cursor<'_>) -> Phase {
 }
 
 /// Goes along the edges of a point, and reports whether anything else is known then.
-fn pass_point(phases: &mut [Phase], phase: Phase, edges: &[Edge<'_>]) -> bool {
+fn pass_point(phases: &mut [Phase], phase: Phase, point: &Point<'_>, is_helped: bool) -> bool {
     let mut is_changed = false;
-    for edge in edges {
+    for edge in &point.edges {
+        let before = if is_helped && point.posts(edge) {
+            joined(phase, Phase::Marked)
+        } else {
+            phase
+        };
         let Some(next) = edge.next else {
             continue;
         };
         if let Some(there) = phases.get_mut(next) {
-            let now = joined(*there, behind(phase, edge.riders));
+            let now = joined(*there, behind(before, edge.riders));
             is_changed = is_changed || now != *there;
             *there = now;
         }
@@ -62,21 +67,22 @@ fn pass_point(phases: &mut [Phase], phase: Phase, edges: &[Edge<'_>]) -> bool {
 }
 
 /// Goes once along all edges, and reports whether anything else is known then.
-fn pass(points: &[Point<'_>], phases: &mut [Phase]) -> bool {
+fn pass(points: &[Point<'_>], phases: &mut [Phase], is_helped: bool) -> bool {
     let mut is_changed = false;
     for (place, point) in points.iter().enumerate() {
         let phase = match phases.get(place) {
             Some(phase) => *phase,
             None => Phase::Unseen,
         };
-        if phase != Phase::Unseen && pass_point(phases, phase, &point.edges) {
+        if phase != Phase::Unseen && pass_point(phases, phase, point, is_helped) {
             is_changed = true;
         }
     }
     is_changed
 }
 
-/// What is known of the own call at each of these points. If other clients may mark it, it is not known that it is not marked.
+/// What is known of the own call at each of these points. If other clients may mark it, it is not known that it is not marked once the client has
+/// stored its number.
 pub(crate) fn find_phases(
     alloc: Global,
     points: &[Point<'_>],
@@ -84,15 +90,14 @@ pub(crate) fn find_phases(
 ) -> Result<Vec<Phase>, OutOfMemory> {
     let mut phases = Vec::new(alloc);
     for place in 0..points.len() {
-        let phase = match (place, is_helped) {
-            (0, true) => Phase::Either,
-            (0, false) => Phase::Called,
-            _ => Phase::Unseen,
-        };
-        phases.push(phase)?;
+        phases.push(if place == 0 {
+            Phase::Called
+        } else {
+            Phase::Unseen
+        })?;
     }
     for _ in 0..PASSES {
-        if !pass(points, &mut phases) {
+        if !pass(points, &mut phases, is_helped) {
             return Ok(phases);
         }
     }

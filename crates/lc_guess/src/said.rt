@@ -1,16 +1,18 @@
 //! Terms of the code and of the specification, said as an action says them.
-use crate::text::{MARKS, each_item, items_within, place_of};
+use crate::formula::MARKS;
+use crate::stores::{Held, Stored, Stores};
+use crate::text::{each_item, first_part, first_text, items_within, later, place_of};
 use lc_base::OutOfMemory;
 use lc_reading::{NameTable, Part, next_part};
 use lc_sexp::{Cursor, Item};
 use std::alloc::Global;
 
 /// An action has at most this many parameters.
-const PARAMETERS: usize = 3;
+pub(crate) const PARAMETERS: usize = 3;
 
 /// A local that is known to be a cell, whose index is an atom.
 #[derive(Clone, Copy)]
-pub(crate) struct Known<'a> {
+pub(crate) struct KnownCell<'a> {
     pub(crate) name: &'a str,
     pub(crate) column: &'a str,
     pub(crate) index: &'a str,
@@ -26,11 +28,14 @@ pub(crate) struct Given<'a> {
 /// How names are said.
 #[derive(Drop)]
 pub(crate) struct Scope<'a, 'b> {
+    alloc: Global,
+    /// What was stored before it.
+    stores: Stores<'a>,
     pub(crate) arguments: Cursor<'a>,
     /// The client whose call has the arguments.
     pub(crate) client: String,
     pub(crate) locals: &'b NameTable<'a>,
-    pub(crate) known: Vec<Known<'a>>,
+    pub(crate) known: Vec<KnownCell<'a>>,
     pub(crate) given: Vec<Given<'a>>,
     /// The locals that have another number afterwards, of which it is not known which.
     pub(crate) lost: Vec<&'a str>,
@@ -40,7 +45,7 @@ pub(crate) struct Scope<'a, 'b> {
     pub(crate) used: Vec<&'a str>,
 }
 
-/// The system's column of the argument of this place.
+/// The system's column of an argument, by its place.
 fn argument_column(place: usize) -> &'static str {
     match place {
         0 => "arg1",
@@ -58,6 +63,8 @@ impl<'a, 'b> Scope<'a, 'b> {
         locals: &'b NameTable<'a>,
     ) -> Result<Scope<'a, 'b>, OutOfMemory> {
         Ok(Scope {
+            alloc,
+            stores: Stores::new(alloc),
             arguments,
             client: String::from_str(alloc, client)?,
             locals,
@@ -67,6 +74,11 @@ impl<'a, 'b> Scope<'a, 'b> {
             is_unsaid: false,
             used: Vec::new(alloc),
         })
+    }
+
+    /// Says cells as they are after these stores.
+    pub(crate) fn set_stores(&mut self, stores: Stores<'a>) {
+        self.stores = stores;
     }
 
     /// Notes that a local was said.
@@ -86,7 +98,7 @@ impl<'a, 'b> Scope<'a, 'b> {
     }
 
     /// The cell that a local is known to be.
-    fn known(&self, name: &str) -> Option<Known<'a>> {
+    fn known(&self, name: &str) -> Option<KnownCell<'a>> {
         for known in &self.known {
             if known.name == name {
                 return Some(*known);
@@ -143,35 +155,92 @@ impl<'a, 'b> Scope<'a, 'b> {
         Ok(())
     }
 
-    /// Writes an item.
-    pub(crate) fn write(&mut self, out: &mut String, part: Part<'a>) -> Result<(), OutOfMemory> {
-        match part.item() {
-            Item::Atom(atom) => self.write_name(out, atom.text()),
-            Item::List(inside) => {
-                out.push_str("(")?;
-                self.write_row(out, inside)?;
-                out.push_str(")")?;
-                Ok(())
+    /// Writes a list with these items, which are said already: of a cell in which something was stored, what was.
+    fn write_list(&mut self, out: &mut String, items: &str) -> Result<(), OutOfMemory> {
+        let cell = items
+            .strip_prefix("rd ")
+            .and_then(|cell| cell.split_once(" "));
+        if let Some((column, index)) = cell {
+            match self.stores.held(column, index) {
+                Held::Before => {}
+                Held::Stored(value) => {
+                    out.push_str(value)?;
+                    return Ok(());
+                }
+                Held::Unknown => self.is_unsaid = true,
             }
+        }
+        out.push_str("(")?;
+        out.push_str(items)?;
+        out.push_str(")")?;
+        Ok(())
+    }
+
+    /// An item as it is said.
+    pub(crate) fn said(&mut self, part: Part<'a>) -> Result<String, OutOfMemory> {
+        let mut out = String::new(self.alloc);
+        match part.item() {
+            Item::Atom(atom) => self.write_name(&mut out, atom.text())?,
+            Item::List(inside) => {
+                let items = said_row(self, inside)?;
+                self.write_list(&mut out, &items)?;
+            }
+        }
+        Ok(out)
+    }
+
+    /// The first of these items as it is said; nothing if there is none.
+    pub(crate) fn said_first(&mut self, list: Cursor<'a>) -> Result<String, OutOfMemory> {
+        match first_part(list) {
+            Some(part) => self.said(part),
+            None => Ok(String::new(self.alloc)),
         }
     }
 
-    /// Writes items in a row.
-    pub(crate) fn write_row(
-        &mut self,
-        out: &mut String,
-        list: Cursor<'a>,
-    ) -> Result<(), OutOfMemory> {
-        push_row(self, out, list)
+    /// What an update `(COLUMN INDEX VALUE)` with these items stores.
+    pub(crate) fn said_update(&mut self, update: Cursor<'a>) -> Result<Stored<'a>, OutOfMemory> {
+        let behind = later(update);
+        Ok(Stored {
+            column: first_text(update),
+            index: self.said_first(behind)?,
+            value: self.said_first(later(behind))?,
+        })
     }
 
-    /// Writes a text in which no local is known to be a cell.
+    /// Whether a local is known to be a cell, whose index is no local.
+    pub(crate) fn is_cell(&self, name: &str) -> bool {
+        match self.known(name) {
+            Some(known) => !self.lost.contains(&name) && !self.locals.contains(known.index),
+            None => false,
+        }
+    }
+
+    /// Writes a word of a text in which all locals are parameters or cells.
+    fn write_word(&self, out: &mut String, word: &str) -> Result<(), OutOfMemory> {
+        match self.known(word) {
+            Some(known) if self.is_cell(word) => {
+                out.push_str("(rd ")?;
+                out.push_str(known.column)?;
+                out.push_str(" ")?;
+                if !self.write_given(out, known.index)? {
+                    out.push_str(known.index)?;
+                }
+                out.push_str(")")?;
+            }
+            _ => {
+                if !self.write_given(out, word)? {
+                    out.push_str(word)?;
+                }
+            }
+        }
+        Ok(())
+    }
+
+    /// Writes a text in which all locals are parameters or cells.
     pub(crate) fn write_text(&self, out: &mut String, text: &str) -> Result<(), OutOfMemory> {
         for piece in text.split_inclusive(MARKS) {
             let word = piece.trim_end_matches(MARKS);
-            if !self.write_given(out, word)? {
-                out.push_str(word)?;
-            }
+            self.write_word(out, word)?;
             if let Some(mark) = piece.strip_prefix(word) {
                 out.push_str(mark)?;
             }
@@ -180,43 +249,25 @@ impl<'a, 'b> Scope<'a, 'b> {
     }
 }
 
-/// Writes items in a row.
-fn push_row<'a>(
-    scope: &mut Scope<'a, '_>,
-    out: &mut String,
-    list: Cursor<'a>,
-) -> Result<(), OutOfMemory> {
+/// Items in a row as they are said.
+fn said_row<'a>(scope: &mut Scope<'a, '_>, list: Cursor<'a>) -> Result<String, OutOfMemory> {
+    let mut out = String::new(scope.alloc);
     let mut rest = list;
     let mut is_first = true;
     'items: loop {
         let Ok(part) = next_part(&mut rest) else {
-            return Ok(());
+            return Ok(out);
         };
         if !is_first {
             out.push_str(" ")?;
         }
         is_first = false;
         match part.item() {
-            Item::Atom(atom) => scope.write_name(out, atom.text())?,
+            Item::Atom(atom) => scope.write_name(&mut out, atom.text())?,
             Item::List(inside) => {
-                out.push_str("(")?;
-                push_row(scope, out, inside)?;
-                out.push_str(")")?;
+                let items = said_row(scope, inside)?;
+                scope.write_list(&mut out, &items)?;
             }
         }
     }
-}
-
-/// Writes `(COLUMN INDEX VALUE)` for each update of a branch.
-pub(crate) fn write_updates<'a>(
-    out: &mut String,
-    scope: &mut Scope<'a, '_>,
-    updates: Cursor<'a>,
-) -> Result<(), OutOfMemory> {
-    for part in each_item(updates) {
-        out.push_str(" (")?;
-        scope.write_row(out, items_within(part))?;
-        out.push_str(")")?;
-    }
-    Ok(())
 }

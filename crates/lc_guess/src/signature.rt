@@ -1,5 +1,5 @@
 //! The operations of a specification.
-use crate::text::{each_item, first_text, items_within, later, within_first};
+use crate::text::{each_item, first_text, items_within, later, nth_text, within_first};
 use lc_base::OutOfMemory;
 use lc_reading::{NameTable, Part, behind_word};
 use lc_sexp::{Cursor, Item};
@@ -53,6 +53,25 @@ impl<'a> Operations<'a> {
         Ok(Operations { names, all })
     }
 
+    /// Whether each update of a column of the specification adds a positive number to it.
+    pub(crate) fn grows(&self, column: &str) -> bool {
+        let mut is_updated = false;
+        for operation in &self.all {
+            for branch in each_item(operation.branches) {
+                for update in each_item(branch_in(branch).updates) {
+                    let parts = items_within(update);
+                    if first_text(parts) == column {
+                        is_updated = true;
+                        if !is_raised(later(parts), column) {
+                            return false;
+                        }
+                    }
+                }
+            }
+        }
+        is_updated
+    }
+
     /// The operation of a name.
     pub(crate) fn named(&self, name: &str) -> Option<Operation<'a>> {
         match self.all.get(self.names.place(name)?) {
@@ -60,6 +79,18 @@ impl<'a> Operations<'a> {
             None => None,
         }
     }
+}
+
+/// Whether an update with this index and value adds 1 to what a column has there: `0 (+ (rd COLUMN 0) 1)`.
+fn is_raised(parts: Cursor<'_>, column: &str) -> bool {
+    let sum = within_first(later(parts));
+    let cell = within_first(later(sum));
+    first_text(parts) == "0"
+        && first_text(sum) == "+"
+        && first_text(cell) == "rd"
+        && nth_text(cell, 1) == column
+        && nth_text(cell, 2) == "0"
+        && nth_text(sum, 2) == "1"
 }
 
 /// A branch of this name, whose parts after its parameters these are.

@@ -1,9 +1,17 @@
-//! Facts of locals alone, which nobody else can change: what tests told, what was set, and what the invariant says of a row that was read.
+//! Facts that other clients do not make false, along the edges: of locals, by what tests told, what was set, and what the invariant says of a row
+//! that was read; of cells, and of what is noted.
+use crate::cells::{push_cells, stored_at};
 use crate::code::{Edge, PASSES, Point};
-use crate::object::Object;
+use crate::ends::Ways;
+use crate::fact::{Basis, Fact, each_known, is_owned};
+use crate::formula::{MARKS, cell_at, negated};
+use crate::helping::{push_posted, unposted};
+use crate::noting::{condition_of, push_noted};
+use crate::placing::{push_places, push_taken};
+use crate::seen::{Body, Seen};
 use crate::text::{
-    MARKS, each_item, first_text, items_within, later, printed, push_each, push_parts, text_of,
-    within_first,
+    each_cell, each_item, first_part, first_text, items_within, later, printed, push_each,
+    push_parts, text_of, within_first,
 };
 use lc_base::OutOfMemory;
 use lc_reading::{Part, behind_word};
@@ -16,14 +24,14 @@ const MOST_FACTS: usize = 64;
 /// The facts of a body, and the numbers of those that are known at each point, if a way leads there.
 #[derive(Drop)]
 pub(crate) struct Told {
-    pub(crate) facts: Vec<String>,
+    pub(crate) facts: Vec<Fact>,
     pub(crate) known: Vec<Option<Vec<usize>>>,
 }
 
 /// The number of a fact, which is entered if it is new; none if there are too many.
-fn number_of(facts: &mut Vec<String>, fact: String) -> Result<Option<usize>, OutOfMemory> {
+fn number_of(facts: &mut Vec<Fact>, fact: Fact) -> Result<Option<usize>, OutOfMemory> {
     for (number, other) in facts.iter().enumerate() {
-        if other.as_str() == fact.as_str() {
+        if other.is_same(&fact) {
             return Ok(Some(number));
         }
     }
@@ -49,7 +57,7 @@ fn push_tested(
         return push_each(alloc, told, inside);
     }
     let text = printed(alloc, test)?;
-    told.push(format!(in alloc; "(not {text})")?)?;
+    told.push(negated(alloc, &text)?)?;
     Ok(())
 }
 
@@ -77,9 +85,8 @@ fn with_row(
     targets: Cursor<'_>,
 ) -> Result<String, OutOfMemory> {
     let mut said = String::from_str(alloc, text)?;
-    for (column, local) in each_item(columns).zip(each_item(targets)) {
-        let name = first_text(items_within(column));
-        let cell = format!(in alloc; "(rd {name} {index})")?;
+    for (column, local) in each_cell(columns, targets) {
+        let cell = cell_at(alloc, column, index)?;
         said = said.replace(alloc, cell.as_str(), text_of(local))?;
     }
     Ok(said)
@@ -96,65 +103,213 @@ fn is_of_locals(text: &str) -> bool {
 }
 
 /// Appends what the invariant claims of a row that was read.
-fn push_read(
-    alloc: Global,
-    told: &mut Vec<String>,
-    object: &Object<'_>,
-    point: &Point<'_>,
-) -> Result<(), OutOfMemory> {
-    let columns = object.columns_of(first_text(point.code));
-    for index in each_item(later(point.code)).take(1) {
-        let index = printed(alloc, index)?;
-        if point.changes(&index) {
-            return Ok(());
+fn push_read(alloc: Global, told: &mut Vec<String>, seen: Seen<'_, '_>) -> Result<(), OutOfMemory> {
+    let index = seen.point.index(alloc)?;
+    if seen.point.changes(&index) {
+        return Ok(());
+    }
+    for claim in &seen.body.object.claims {
+        let said = with_row(alloc, claim, seen.columns(), &index, seen.point.targets())?;
+        if said.as_str() != claim.as_str() && is_of_locals(&said) {
+            told.push(said)?;
         }
-        for claim in &object.claims {
-            let said = with_row(alloc, claim, columns, &index, point.targets())?;
-            if said.as_str() != claim.as_str() && is_of_locals(&said) {
-                told.push(said)?;
+    }
+    Ok(())
+}
+
+/// What a test tells at an edge.
+fn tested_at(
+    alloc: Global,
+    point: &Point<'_>,
+    edge: &Edge<'_>,
+) -> Result<Vec<String>, OutOfMemory> {
+    let mut told = Vec::new(alloc);
+    if point.word == "if" {
+        if let Some(test) = first_part(point.code) {
+            push_tested(alloc, &mut told, test, edge.word)?;
+        }
+    }
+    Ok(told)
+}
+
+/// Appends facts that claim these.
+fn push_plain(
+    alloc: Global,
+    facts: &mut Vec<Fact>,
+    claims: Vec<String>,
+) -> Result<(), OutOfMemory> {
+    for claim in claims {
+        facts.push(Fact::plain(alloc, claim))?;
+    }
+    Ok(())
+}
+
+/// Whether one formula is the other one with a `not`.
+fn is_negation(alloc: Global, one: &str, other: &str) -> Result<bool, OutOfMemory> {
+    Ok(negated(alloc, one)?.as_str() == other)
+}
+
+/// Whether it was told that a premise does not hold.
+fn is_refuted(alloc: Global, premise: &str, told: &[String]) -> Result<bool, OutOfMemory> {
+    for formula in told {
+        if is_negation(alloc, premise, formula)? || is_negation(alloc, formula, premise)? {
+            return Ok(true);
+        }
+    }
+    Ok(false)
+}
+
+/// Whether it was told that a premise holds.
+fn is_told(premise: &str, told: &[String]) -> bool {
+    for formula in told {
+        if formula.as_str() == premise {
+            return true;
+        }
+    }
+    false
+}
+
+/// Appends what is known after a test of facts that are claimed where a premise holds that it told.
+fn push_settled(
+    alloc: Global,
+    new: &mut Vec<Fact>,
+    seen: Seen<'_, '_>,
+    told: &[String],
+) -> Result<(), OutOfMemory> {
+    for fact in seen.known_facts() {
+        if is_told(&fact.premise, told) {
+            let mut settled = fact.copy()?;
+            settled.premise = String::new(alloc);
+            new.push(settled)?;
+        }
+    }
+    Ok(())
+}
+
+/// A fact, with the locals for the cells that are read, or found by a `cas`.
+fn reread(alloc: Global, seen: Seen<'_, '_>, fact: &Fact) -> Result<Fact, OutOfMemory> {
+    let columns = seen.columns();
+    let targets = match seen.point.word {
+        "cas" => within_first(later(later(seen.point.code))),
+        _ => seen.point.targets(),
+    };
+    let index = seen.point.index(alloc)?;
+    let mut said = fact.copy()?;
+    said.premise = with_row(alloc, &fact.premise, columns, &index, targets)?;
+    said.claim = with_row(alloc, &fact.claim, columns, &index, targets)?;
+    Ok(said)
+}
+
+/// Appends what is known of the own call, said of the locals that cells were read into.
+fn push_reread(alloc: Global, new: &mut Vec<Fact>, seen: Seen<'_, '_>) -> Result<(), OutOfMemory> {
+    for fact in seen.known_facts() {
+        let is_own = matches!(fact.basis, Basis::Noted | Basis::Posted);
+        if is_own && !fact.speaks_of(&seen.point.sets) {
+            let said = reread(alloc, seen, fact)?;
+            if !said.is_same(fact) {
+                new.push(said)?;
             }
         }
     }
     Ok(())
 }
 
-/// What is known at an edge of a point that was not known before.
-fn new_at(
-    alloc: Global,
-    object: &Object<'_>,
-    point: &Point<'_>,
-    edge: &Edge<'_>,
-) -> Result<Vec<String>, OutOfMemory> {
-    let mut told = Vec::new(alloc);
-    match point.word {
-        "if" => {
-            for test in each_item(point.code).take(1) {
-                push_tested(alloc, &mut told, test, edge.word)?;
-            }
-        }
-        "set" => push_set(alloc, &mut told, point)?,
-        "load" | "faa" => push_read(alloc, &mut told, object, point)?,
-        _ => {}
+/// Whether a fact was for a mark under this condition, which is passed at an edge.
+fn is_passed(alloc: Global, condition: &str, fact: &Fact) -> Result<bool, OutOfMemory> {
+    if condition.is_empty() || fact.basis != Basis::Stays {
+        return Ok(false);
     }
-    Ok(told)
+    Ok(fact.premise.as_str() == condition || is_negation(alloc, condition, &fact.premise)?)
 }
 
-/// The numbers of facts that are known behind an edge of a point, by those that are known at the point.
-fn behind(
+/// Whether a fact of what is noted is said of locals that are read at a load.
+fn is_reread(alloc: Global, seen: Seen<'_, '_>, fact: &Fact) -> Result<bool, OutOfMemory> {
+    if fact.basis != Basis::Noted || seen.point.word != "load" {
+        return Ok(false);
+    }
+    let said = reread(alloc, seen, fact)?;
+    Ok(!said.is_same(fact))
+}
+
+/// What is known at an edge that was not known before.
+fn new_at(
     alloc: Global,
-    facts: &mut Vec<String>,
-    point: &Point<'_>,
-    known: &[usize],
-    new: Vec<String>,
+    seen: Seen<'_, '_>,
+    tested: Vec<String>,
+    stored: &[&str],
+) -> Result<Vec<Fact>, OutOfMemory> {
+    let mut new = Vec::new(alloc);
+    let mut claims = Vec::new(alloc);
+    push_settled(alloc, &mut new, seen, &tested)?;
+    match seen.point.word {
+        "set" => push_set(alloc, &mut claims, seen.point)?,
+        "load" | "faa" => {
+            push_read(alloc, &mut claims, seen)?;
+            push_reread(alloc, &mut new, seen)?;
+        }
+        "cas" if seen.edge.word == "then" => push_reread(alloc, &mut new, seen)?,
+        _ => {}
+    }
+    push_plain(alloc, &mut new, tested)?;
+    push_plain(alloc, &mut new, claims)?;
+    push_cells(alloc, &mut new, seen)?;
+    push_taken(alloc, &mut new, seen, stored)?;
+    push_places(alloc, &mut new, seen)?;
+    push_noted(alloc, &mut new, seen)?;
+    push_posted(alloc, &mut new, seen)?;
+    Ok(new)
+}
+
+/// The numbers of facts that stay behind an edge, where a test told this.
+fn staying(
+    alloc: Global,
+    seen: Seen<'_, '_>,
+    tested: &[String],
+    stored: &[&str],
 ) -> Result<Vec<usize>, OutOfMemory> {
+    let condition = condition_of(alloc, seen.edge.riders)?;
     let mut numbers = Vec::new(alloc);
-    for number in known {
-        if let Some(fact) = facts.get(*number) {
-            if !point.changes(fact) {
-                numbers.push(*number)?;
-            }
+    for number in seen.known {
+        let Some(fact) = seen.facts.get(*number) else {
+            continue;
+        };
+        let is_settled = is_told(&fact.premise, tested)
+            || is_refuted(alloc, &fact.premise, tested)?
+            || is_passed(alloc, &condition, fact)?
+            || is_reread(alloc, seen, fact)?;
+        if !is_settled && !fact.speaks_of(&seen.point.sets) && !fact.speaks_of(stored) {
+            numbers.push(*number)?;
         }
     }
+    Ok(numbers)
+}
+
+/// Whether a fact of this number rests on none of what the client owns, or on what is owned by one of these.
+fn is_founded(facts: &[Fact], numbers: &[usize], number: usize) -> bool {
+    let Some(fact) = facts.get(number) else {
+        return false;
+    };
+    fact.basis != Basis::Owned || is_owned(each_known(facts, numbers), &fact.index)
+}
+
+/// The numbers of these facts that rest on what is still owned.
+fn founded(alloc: Global, facts: &[Fact], numbers: &[usize]) -> Result<Vec<usize>, OutOfMemory> {
+    let mut left = Vec::new(alloc);
+    for number in numbers {
+        if is_founded(facts, numbers, *number) {
+            left.push(*number)?;
+        }
+    }
+    Ok(left)
+}
+
+/// The numbers of facts that are known behind an edge: those that stay, and the new ones.
+fn behind(
+    alloc: Global,
+    facts: &mut Vec<Fact>,
+    mut numbers: Vec<usize>,
+    new: Vec<Fact>,
+) -> Result<Vec<usize>, OutOfMemory> {
     for fact in new {
         if let Some(number) = number_of(facts, fact)? {
             if !numbers.contains(&number) {
@@ -162,7 +317,7 @@ fn behind(
             }
         }
     }
-    Ok(numbers)
+    founded(alloc, facts, &numbers)
 }
 
 /// Joins what is known behind an edge to what is known where it leads, and reports whether that is less than it was.
@@ -183,23 +338,48 @@ fn join(known: &mut [Option<Vec<usize>>], next: usize, numbers: Vec<usize>) -> b
     }
 }
 
-/// Goes once along all edges, and reports whether anything else is known then.
-fn pass(
+/// The numbers of facts that are known behind an edge of a point, by those that are known at the point.
+fn pass_edge<'a>(
     alloc: Global,
-    object: &Object<'_>,
-    points: &[Point<'_>],
+    body: Body<'a, '_>,
+    ways: Ways<'a, '_>,
+    facts: &mut Vec<Fact>,
+    at: (&Point<'a>, &Edge<'a>),
+    known: &[usize],
+) -> Result<Vec<usize>, OutOfMemory> {
+    let (point, edge) = at;
+    let tested = tested_at(alloc, point, edge)?;
+    let seen = Seen {
+        body,
+        ways,
+        point,
+        edge,
+        facts: &*facts,
+        known,
+    };
+    let stored = stored_at(alloc, seen)?;
+    let numbers = staying(alloc, seen, &tested, &stored)?;
+    let new = new_at(alloc, seen, tested, &stored)?;
+    behind(alloc, facts, numbers, new)
+}
+
+/// Goes once along all edges, and reports whether anything else is known then.
+fn pass<'a>(
+    alloc: Global,
+    body: Body<'a, '_>,
+    ways: Ways<'a, '_>,
     told: &mut Told,
 ) -> Result<bool, OutOfMemory> {
     let mut is_changed = false;
-    for (place, point) in points.iter().enumerate() {
+    for (place, point) in ways.points.iter().enumerate() {
         let Some(Some(known)) = told.known.get(place) else {
             continue;
         };
         let known = Vec::from_slice(alloc, known)?;
         for edge in &point.edges {
             if let Some(next) = edge.next {
-                let new = new_at(alloc, object, point, edge)?;
-                let numbers = behind(alloc, &mut told.facts, point, &known, new)?;
+                let at = (point, edge);
+                let numbers = pass_edge(alloc, body, ways, &mut told.facts, at, &known)?;
                 is_changed = join(&mut told.known, next, numbers) || is_changed;
             }
         }
@@ -207,25 +387,24 @@ fn pass(
     Ok(is_changed)
 }
 
-/// The facts of locals that are known at each of these points of a body.
-pub(crate) fn tell(
+/// The facts that are known at each point of a body.
+pub(crate) fn tell<'a>(
     alloc: Global,
-    object: &Object<'_>,
-    points: &[Point<'_>],
+    body: Body<'a, '_>,
+    ways: Ways<'a, '_>,
 ) -> Result<Told, OutOfMemory> {
     let mut told = Told {
         facts: Vec::new(alloc),
         known: Vec::new(alloc),
     };
-    for place in 0..points.len() {
-        told.known.push(if place == 0 {
-            Some(Vec::new(alloc))
-        } else {
-            None
-        })?;
+    let first = unposted(alloc, body, ways.points)?;
+    let first = behind(alloc, &mut told.facts, Vec::new(alloc), first)?;
+    told.known.push(Some(first))?;
+    for _ in 1..ways.points.len() {
+        told.known.push(None)?;
     }
     for _ in 0..PASSES {
-        if !pass(alloc, object, points, &mut told)? {
+        if !pass(alloc, body, ways, &mut told)? {
             return Ok(told);
         }
     }

@@ -7,9 +7,6 @@ use lc_reading::{Part, behind_word, next_part};
 use lc_sexp::{Cursor, Item, print};
 use std::alloc::Global;
 
-/// What words of a text are separated by.
-pub(crate) const MARKS: [char; 3] = ['(', ')', ' '];
-
 /// The items left in a list, one after another.
 #[derive(Drop)]
 pub(crate) struct Items<'a> {
@@ -29,6 +26,64 @@ impl<'a> Iterator for Items<'a> {
     fn next(&mut self) -> Option<Part<'a>> {
         next_part(&mut self.rest).ok()
     }
+}
+
+/// The items left in a list with their places, one after another.
+#[derive(Drop)]
+pub(crate) struct Numbered<'a> {
+    rest: Cursor<'a>,
+    place: usize,
+}
+
+/// The items left in a list with their places, from 0 on.
+pub(crate) fn each_numbered(list: Cursor<'_>) -> Numbered<'_> {
+    Numbered {
+        rest: list,
+        place: 0,
+    }
+}
+
+impl<'a> Iterator for Numbered<'a> {
+    type Item = (usize, Part<'a>);
+
+    ghost remaining = { λ s. at_most (part_count (rest_of s.rest)) };
+
+    fn next(&mut self) -> Option<(usize, Part<'a>)> {
+        let part = next_part(&mut self.rest).ok()?;
+        let place = self.place;
+        self.place = place.saturating_add(1);
+        Some((place, part))
+    }
+}
+
+/// The cells of a row, one after another.
+#[derive(Drop)]
+pub(crate) struct Cells<'a> {
+    columns: Cursor<'a>,
+    terms: Cursor<'a>,
+}
+
+/// The cells of a row with these columns `(COLUMN A B) ..`: the name of the column, and the term that is read there, stored there or expected.
+pub(crate) fn each_cell<'a>(columns: Cursor<'a>, terms: Cursor<'a>) -> Cells<'a> {
+    Cells { columns, terms }
+}
+
+impl<'a> Iterator for Cells<'a> {
+    type Item = (&'a str, Part<'a>);
+
+    ghost remaining = { λ s. at_most (part_count (rest_of s.columns)) };
+
+    fn next(&mut self) -> Option<(&'a str, Part<'a>)> {
+        let column = next_part(&mut self.columns).ok()?;
+        let term = next_part(&mut self.terms).ok()?;
+        Some((first_text(items_within(column)), term))
+    }
+}
+
+/// The first of these items, if there is one.
+pub(crate) fn first_part(list: Cursor<'_>) -> Option<Part<'_>> {
+    let mut ahead = list;
+    next_part(&mut ahead).ok()
 }
 
 /// The text of a part that is an atom; else none.
@@ -51,6 +106,15 @@ pub(crate) fn first_text(list: Cursor<'_>) -> &str {
         Ok(atom) => atom.text(),
         Err(_) => "",
     }
+}
+
+/// The text of the item of this place, if it is an atom; else none.
+pub(crate) fn nth_text(list: Cursor<'_>, place: usize) -> &str {
+    let mut rest = list;
+    for _ in 0..place {
+        rest = later(rest);
+    }
+    first_text(rest)
 }
 
 /// The items after the first.
@@ -90,12 +154,10 @@ pub(crate) fn mentions(list: Cursor<'_>, name: &str) -> bool {
 
 /// The place of an atom among these items.
 pub(crate) fn place_of(list: Cursor<'_>, name: &str) -> Option<usize> {
-    let mut place = 0usize;
-    for part in each_item(list) {
+    for (place, part) in each_numbered(list) {
         if text_of(part) == name {
             return Some(place);
         }
-        place = place.saturating_add(1);
     }
     None
 }
@@ -112,6 +174,14 @@ pub(crate) fn printed(alloc: Global, part: Part<'_>) -> Result<String, OutOfMemo
     match str::from_utf8(&text) {
         Ok(text) => Ok(String::from_str(alloc, text.trim_end())?),
         Err(_) => Ok(String::new(alloc)),
+    }
+}
+
+/// The first of these items as it stands; nothing if there is none.
+pub(crate) fn printed_first(alloc: Global, list: Cursor<'_>) -> Result<String, OutOfMemory> {
+    match first_part(list) {
+        Some(part) => printed(alloc, part),
+        None => Ok(String::new(alloc)),
     }
 }
 
