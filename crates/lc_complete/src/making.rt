@@ -10,6 +10,7 @@ ghost use Rattle.lc_complete.specs.Making.{IsAnswer};
 use lc_base::{Fault, OutOfMemory};
 use lc_fill::Plan;
 use lc_guess::guess;
+use lc_houdini::sifted;
 use lc_layout::lay_out;
 use lc_outline::Development;
 use lc_sexp::Forms;
@@ -45,12 +46,18 @@ fn completed_plainly(alloc: Global, forms: &Forms) -> Result<Completion, Fault>
     completed(alloc, &plan, forms)
 }
 
-/// The short development of these forms, in which the calls at these places lack, with what is guessed put in; if it is refused so, with
-/// nothing planned.
-fn completed_by_guesses(alloc: Global, forms: &Forms, lacking: &[u64]) -> Result<Completion, Fault>
+/// The short development of these forms, in which the calls at these places lack, with what is guessed put in, but for facts without a proof and those that
+/// nothing needs; if it is refused so, with nothing planned.
+fn completed_by_guesses(
+    alloc: Global,
+    forms: &Forms,
+    lacking: &[u64],
+    budget: u64,
+) -> Result<Completion, Fault>
     ensures { (bytes : List ℕ) → ReadsAs bytes forms.now → IsCompleted bytes no_plan forms.now result }
 {
-    let plan = guess(alloc, forms, lacking)?;
+    let guessed = guess(alloc, forms, lacking)?;
+    let plan = sifted(alloc, forms, guessed, budget)?;
     match completed(alloc, &plan, forms) {
         Ok(completion) => Ok(completion),
         Err(Fault::Refused(_)) => completed_plainly(alloc, forms),
@@ -58,16 +65,16 @@ fn completed_by_guesses(alloc: Global, forms: &Forms, lacking: &[u64]) -> Result
     }
 }
 
-/// The short development of the file with these forms, made whole. What was guessed need not hold: whether all conditions of the development
-/// are valid is for the finder to say.
+/// The short development of the file with these forms, made whole. Guessed facts of which no proof is found in at most `budget` steps are left out. What
+/// was guessed need not hold: whether all conditions of the development are valid is for the finder to say.
 ///
 /// If the file is no short development, `Refused` has its first refusal, as of `lc_short::short_in`. If it is one, and its text is not within the limits
 /// with what was left out put in, `Refused` has the first refusal of that text.
-pub fn complete(alloc: Global, forms: &Forms) -> Result<Made, Fault>
+pub fn complete(alloc: Global, forms: &Forms, budget: u64) -> Result<Made, Fault>
     ensures { (bytes : List ℕ) → ReadsAs bytes forms.now → IsAnswer bytes result }
 {
     let short = short_in(alloc, forms)?;
-    let completion = completed_by_guesses(alloc, forms, short.lacking())?;
+    let completion = completed_by_guesses(alloc, forms, short.lacking(), budget)?;
     let text = laid(alloc, &completion.text)?;
     let Completion { development, .. } = completion;
     Ok(Made { text, development })

@@ -9,8 +9,12 @@ use lc_sexp::Forms;
 use std::alloc::Global;
 
 /// A short development is made whole.
-pub fn making_a_development_whole(alloc: Global, forms: &Forms) -> Result<Made, Fault>
+pub fn making_a_development_whole(
+    alloc: Global,
+    forms: &Forms,
+    budget: u64,
+) -> Result<Made, Fault>
     ensures { (bytes : List ℕ) → ReadsAs bytes forms.now → IsAnswer bytes result }
 {
-    complete(alloc, forms)
+    complete(alloc, forms, budget)
 }

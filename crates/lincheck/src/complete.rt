@@ -20,12 +20,15 @@ use lc_sexp::FormsReader;
 use std::alloc::Global;
 use std::io::Write;
 
+/// How many steps are tried for a condition of a guess.
+const TRIED: u64 = 20_000;
+
 /// The short development in the file that a reader was fed, made whole; else its first refusal.
-fn made_fed(alloc: Global, reader: FormsReader) -> Result<Made, Fault>
+fn made_fed(alloc: Global, reader: FormsReader, budget: u64) -> Result<Made, Fault>
     ensures { (bytes : List ℕ) → WasFed reader bytes → IsAnswer bytes result }
 {
     let forms = reader.finish()?;
-    complete(alloc, &forms)
+    complete(alloc, &forms, budget.min(TRIED))
 }
 
 /// The number of the condition that a fault of the finder names.
@@ -101,10 +104,11 @@ pub fn answer_complete<'a, F: Files, E: Write>(
     ensures unread { F.CannotOpen files.old path.now → IsErr result }
     ensures answers { IfOk result (λ answer. OfFile (F.bytes_at files.old path.now) (λ file. AnswersComplete file answer.text.items answer.status)) }
 {
+    let budget = budget.unwrap_or(BUDGET);
     let reader = feed_forms(alloc, files, path)?;
-    match made_fed(alloc, reader) {
+    match made_fed(alloc, reader, budget) {
         Ok(made) => {
-            let answer = told_made(alloc, made, budget.unwrap_or(BUDGET), telling)?;
+            let answer = told_made(alloc, made, budget, telling)?;
             Ok(answer)
         }
         Err(fault) => Ok(told_fault(alloc, fault)?),

@@ -1,0 +1,11 @@
+//! Guesses are sifted: those that do not hold are left out of a plan, and then those that nothing needs (Flanagan and Leino, Houdini, 2001). Nothing is
+//! promised of what is left: what is completed by it is a development, whose conditions are to be proved.
+#![tactic(auto)]
+
+mod core;
+mod facts;
+mod needs;
+mod searching;
+mod sifting;
+
+pub use sifting::sifted;
