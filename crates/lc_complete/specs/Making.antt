@@ -1,5 +1,5 @@
 -- The answers to a file that is to be made whole.
-use Rattle.std.specs.Prelude.{◌≡◌, ℕ, ◌⊎◌, List, Result, Ok, Err}
+use Rattle.std.specs.Prelude.{◌≡◌, ℕ, ◌⊎◌, Bool, List, Result, Ok, Err}
 use Rattle.lc_base.specs.declared.refusal.Fault.{Fault}
 use Rattle.lc_base.specs.declared.refusal.Fault.TheVariants.{Refused, OutOfMemory}
 use Rattle.lc_base.specs.declared.refusal.Refusal.{Refusal}
@@ -11,15 +11,17 @@ use Rattle.lc_reading.specs.Files.{IsFirstRefusal}
 use Rattle.lc_sexp.specs.Reads.{ReadsAs}
 use Rattle.lc_sexp.specs.Trees.{Trees}
 use Rattle.lc_short.specs.Shorts.{Completes, IsShortRefusal, whole_text}
+use Rattle.lc_complete.specs.Noted.{noted}
 use Rattle.lc_complete.specs.declared.making.Made.{Made}
 
--- the text has the forms of a development that completes the file, over lines
+-- the text has the forms of a development that completes the file, over lines, of which some are marked as inferred
 pub record IsMade (file text : List ℕ) (D : Development) : Type 0 where
   pub spelled : List ℕ
   pub forms : Trees
   pub completes : Completes file spelled D
   pub read : ReadsAs spelled forms
-  pub text_is : text ≡ laid_out forms
+  pub marks : List Bool
+  pub text_is : text ≡ noted marks (laid_out forms)
 
 -- the file is refused as a short development is, or what it is filled up to is
 abbrev pub IsRefused : List ℕ → Refusal → Type 0

@@ -1,12 +1,15 @@
 //! How a short development is made whole.
-ghost use Rattle.std.specs.Prelude.{◌≡◌, ℕ, List, IfOk};
+ghost use Rattle.std.specs.Prelude.{◌≡◌, ℕ, Bool, List, IfOk};
 ghost use Rattle.lc_fill.specs.Plan.{no_plan};
 ghost use Rattle.lc_layout.specs.Layout.{laid_out};
 ghost use Rattle.lc_sexp.specs.Reads.{ReadsAs};
 ghost use Rattle.lc_sexp.specs.Trees.{Trees};
 ghost use Rattle.lc_short.specs.Completing.{IsCompleted};
 ghost use Rattle.lc_complete.specs.Making.{IsAnswer};
+ghost use Rattle.lc_complete.specs.Noted.{noted};
 
+use crate::inferred::inferred_lines;
+use crate::noting::noted;
 use lc_base::{Fault, OutOfMemory};
 use lc_fill::Plan;
 use lc_guess::guess;
@@ -20,7 +23,7 @@ use std::alloc::Global;
 /// A short development that was made whole.
 #[derive(Drop)]
 pub struct Made {
-    /// Its two forms, over lines.
+    /// Its two forms, over lines. Lines on which something inferred begins have a comment at their end.
     pub text: Vec<u8>,
     pub development: Development,
 }
@@ -46,27 +49,37 @@ fn completed_plainly(alloc: Global, forms: &Forms) -> Result<Completion, Fault>
     completed(alloc, &plan, forms)
 }
 
-/// The short development of these forms, in which the calls at these places lack, with what is guessed put in, but for facts without a proof and those that
-/// nothing needs; if it is refused so, with nothing planned.
-fn completed_by_guesses(
-    alloc: Global,
-    forms: &Forms,
-    lacking: &[u64],
-    budget: u64,
-) -> Result<Completion, Fault>
+/// The short development of these forms with what is planned put in; if it is refused so, with nothing planned.
+fn completed_by(alloc: Global, forms: &Forms, plan: &mut Plan) -> Result<Completion, Fault>
     ensures { (bytes : List ℕ) → ReadsAs bytes forms.now → IsCompleted bytes no_plan forms.now result }
 {
-    let guessed = guess(alloc, forms, lacking)?;
-    let plan = sifted(alloc, forms, guessed, budget)?;
-    match completed(alloc, &plan, forms) {
+    match completed(alloc, plan, forms) {
         Ok(completion) => Ok(completion),
-        Err(Fault::Refused(_)) => completed_plainly(alloc, forms),
+        Err(Fault::Refused(_)) => {
+            *plan = Plan::none(alloc)?;
+            completed_plainly(alloc, forms)
+        }
         Err(Fault::OutOfMemory) => Err(Fault::OutOfMemory),
     }
 }
 
-/// The short development of the file with these forms, made whole. Guessed facts of which no proof is found in at most `budget` steps are left out. What
-/// was guessed need not hold: whether all conditions of the development are valid is for the finder to say.
+/// The text of a development that was completed by a plan, over lines. Those on which something inferred begins are marked.
+fn shown(
+    alloc: Global,
+    text: &[u8],
+    plan: &Plan,
+    development: &Development,
+) -> Result<Vec<u8>, OutOfMemory>
+    ensures { IfOk result (λ shown. (forms : Trees) × (marks : List Bool) × ReadsAs text.now forms × (shown.items ≡ noted marks (laid_out forms))) }
+{
+    let laid = laid(alloc, text)?;
+    let marks = inferred_lines(alloc, &laid, plan, development)?;
+    let shown = noted(alloc, &laid, &marks)?;
+    Ok(shown)
+}
+
+/// The short development of the file with these forms, made whole. Guessed facts of which no proof is found in at most `budget` steps, and those
+/// that nothing needs, are left out. What was guessed need not hold: whether all conditions of the development are valid is for the finder to say.
 ///
 /// If the file is no short development, `Refused` has its first refusal, as of `lc_short::short_in`. If it is one, and its text is not within the limits
 /// with what was left out put in, `Refused` has the first refusal of that text.
@@ -74,8 +87,10 @@ pub fn complete(alloc: Global, forms: &Forms, budget: u64) -> Result<Made, Fault
     ensures { (bytes : List ℕ) → ReadsAs bytes forms.now → IsAnswer bytes result }
 {
     let short = short_in(alloc, forms)?;
-    let completion = completed_by_guesses(alloc, forms, short.lacking(), budget)?;
-    let text = laid(alloc, &completion.text)?;
+    let guessed = guess(alloc, forms, short.lacking())?;
+    let mut plan = sifted(alloc, forms, guessed, budget)?;
+    let completion = completed_by(alloc, forms, &mut plan)?;
+    let text = shown(alloc, &completion.text, &plan, &completion.development)?;
     let Completion { development, .. } = completion;
     Ok(Made { text, development })
 }

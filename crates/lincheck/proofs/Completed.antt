@@ -29,6 +29,7 @@ made_of_whole file text D made = record {
     says = made.completes.says;
   };
   read = made.read;
+  marks = made.marks;
   text_is = made.text_is;
 }
 

@@ -16,11 +16,12 @@ returns-in_err-text c = λ bytes reads. memory_answers bytes c.from_residual-in_
 
 pub returns : goal.returns
 returns c = λ bytes reads.
-    let (forms, read, is) = c.in_ok-text.ensures in
+    let (forms, marks, read, is) = c.in_ok-text.ensures in
     record {
       spelled = c.in_ok-completion.completion.text.items;
       forms = forms;
       completes = c.in_ok-completion.ensures bytes reads;
       read = subst (λ (s : List ℕ). ReadsAs s forms) c.deref.ensures.value read;
+      marks = marks;
       text_is = is;
     }
