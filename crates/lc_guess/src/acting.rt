@@ -267,7 +267,7 @@ fn written(
     }
     action.push_str(") ")?;
     action.push_str(guard)?;
-    deeds.stores.write(&mut action)?;
+    deeds.stores.write(alloc, &mut action)?;
     action.push_str(")")?;
     Ok(Guessed { action, call })
 }

@@ -88,7 +88,7 @@ fn push_version(
         return Ok(());
     };
     let targets = seen.point.targets();
-    if each_item(targets).count() < 2 || !is_followed(seen.ways.points, targets, version, number) {
+    if targets.len() < 2 || !is_followed(seen.ways.points, targets, version, number) {
         return Ok(());
     }
     let index = seen.point.index(alloc)?;

@@ -1,4 +1,5 @@
 //! What is stored at an edge so far.
+use crate::formula::cell_at;
 use lc_base::OutOfMemory;
 use std::alloc::Global;
 
@@ -71,9 +72,27 @@ impl<'a> Stores<'a> {
         held
     }
 
-    /// Writes `(COLUMN INDEX VALUE)` for each cell.
-    pub(crate) fn write(&self, out: &mut String) -> Result<(), OutOfMemory> {
+    /// Whether a number is what its cell held before, in a column in which nothing else is stored.
+    fn is_idle(&self, alloc: Global, stored: &Stored<'_>) -> Result<bool, OutOfMemory> {
+        let cell = cell_at(alloc, stored.column, &stored.index)?;
+        if stored.value.as_str() != cell.as_str() {
+            return Ok(false);
+        }
+        let mut count = 0usize;
+        for other in &self.all {
+            if other.column == stored.column {
+                count = count.saturating_add(1);
+            }
+        }
+        Ok(count == 1)
+    }
+
+    /// Writes `(COLUMN INDEX VALUE)` for each cell that changes.
+    pub(crate) fn write(&self, alloc: Global, out: &mut String) -> Result<(), OutOfMemory> {
         for stored in &self.all {
+            if self.is_idle(alloc, stored)? {
+                continue;
+            }
             out.push_str(" (")?;
             out.push_str(stored.column)?;
             out.push_str(" ")?;

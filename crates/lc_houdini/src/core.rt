@@ -1,13 +1,11 @@
 //! What a proof uses of what it starts from.
+use crate::marks::set;
 use lc_kernel::{Proof, Step};
 
 /// Marks a hypothesis, if it is one of the first.
 fn mark(used: &mut [bool], hypothesis: i64) {
-    let Ok(place) = usize::try_from(hypothesis) else {
-        return;
-    };
-    if let Some(mark) = used.get_mut(place) {
-        *mark = true;
+    if let Ok(place) = usize::try_from(hypothesis) {
+        set(used, place, true);
     }
 }
 

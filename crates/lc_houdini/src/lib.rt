@@ -4,8 +4,12 @@
 
 mod core;
 mod facts;
+mod goals;
+mod guards;
+mod marks;
 mod needs;
 mod searching;
 mod sifting;
 
+pub use guards::written_actions;
 pub use sifting::sifted;

@@ -3,7 +3,7 @@ use crate::facts::Facts;
 use lc_base::{OutOfMemory, PointId};
 use lc_cond::{Condition, Kind, Passage, Which};
 use lc_object::{EdgeKind, edges};
-use lc_outline::Development;
+use lc_outline::{ActionId, Development};
 use std::alloc::Global;
 
 /// What a condition asks for, and what it was found to use.
@@ -73,8 +73,55 @@ impl Ways {
     pub(crate) fn asked(&self, facts: &Facts, condition: &Condition) -> Option<usize> {
         let point = self.goal_point(condition)?;
         match condition.place.which {
-            Which::Numbered(conjunct) => facts.number(point, conjunct),
+            Which::Numbered(conjunct) => facts.asserted(point, conjunct),
             _ => None,
         }
     }
+}
+
+/// Whether two edges of an instruction are the same.
+fn is_same(left: EdgeKind, right: EdgeKind) -> bool {
+    matches!(
+        (left, right),
+        (EdgeKind::Next, EdgeKind::Next)
+            | (EdgeKind::Then, EdgeKind::Then)
+            | (EdgeKind::Else, EdgeKind::Else)
+    )
+}
+
+/// The action whose guard a condition asks for, if it asks for one.
+pub(crate) fn guarded(development: &Development, condition: &Condition) -> Option<ActionId> {
+    if !matches!(condition.kind, Kind::Guard) {
+        return None;
+    }
+    let Passage::Edge(kind) = condition.place.passage else {
+        return None;
+    };
+    let point = condition.place.point?;
+    let outline = development.parts().outlines.get(point.0 as usize)?;
+    for on in &outline.ons {
+        if is_same(on.edge, kind) {
+            return Some(on.action);
+        }
+    }
+    None
+}
+
+/// The action of another client that a condition stands against, if it stands against one, and the place of its guard among the hypotheses: the
+/// invariant comes after it.
+pub(crate) fn withstood(
+    development: &Development,
+    condition: &Condition,
+) -> Option<(usize, usize)> {
+    let Passage::Action(action) = condition.place.passage else {
+        return None;
+    };
+    let behind = development.parts().tie.conjuncts().len().checked_add(1)?;
+    let place = condition
+        .goal
+        .hypotheses
+        .as_slice()
+        .len()
+        .checked_sub(behind)?;
+    Some((action, place))
 }

@@ -1,13 +1,16 @@
 //! What is needed of the facts of a plan, as proofs that are found tell it.
 ghost use Rattle.lc_cond.specs.ConditionView.{AreConditions, IsCondition};
-ghost use Rattle.lc_table.specs.Tables.{Keeps};
+ghost use Rattle.lc_table.specs.Tables.{AreFormulas, IsFormula, Keeps};
 
 use crate::core::mark_used;
 use crate::facts::Facts;
-use crate::needs::{Need, Ways};
+use crate::goals::{asking, conjuncts, formula_at, opened};
+use crate::marks::{is_set, marks};
+use crate::needs::{Need, Ways, guarded, withstood};
 use lc_base::{OutOfMemory, PointId};
 use lc_cond::{Condition, ConditionStream};
-use lc_outline::Development;
+use lc_kernel::Goal;
+use lc_outline::{ActionId, Development};
 use lc_search::{End, search};
 use lc_table::{FormulaId, Terms};
 use std::alloc::Global;
@@ -94,65 +97,164 @@ fn asserted_at(entered: &[Asserted], point: PointId) -> Option<&[FormulaId]> {
     None
 }
 
-/// A mark for each of these hypotheses.
-fn marks(alloc: Global, hypotheses: &[FormulaId], mark: bool) -> Result<Vec<bool>, OutOfMemory> {
-    let mut marks = Vec::with_capacity(alloc, hypotheses.len())?;
-    for _ in hypotheses {
-        marks.push(mark)?;
-    }
-    Ok(marks)
+/// A goal that a proof is sought for, and what its hypotheses are.
+#[derive(Clone, Copy)]
+struct Sought<'a> {
+    goal: &'a Goal,
+    /// The point of which assertions are hypotheses.
+    point: Option<PointId>,
+    /// An action of which conjuncts of the guard are hypotheses, the place of the first, and how many they are.
+    guard: Option<(usize, usize, usize)>,
+    /// The fact that it asks for.
+    asked: Option<usize>,
 }
 
-/// The facts that are marked hypotheses of a condition.
+impl Sought<'_> {
+    /// The fact that a hypothesis is, if it is one.
+    fn fact(
+        self,
+        facts: &Facts,
+        entered: &[Asserted],
+        place: usize,
+        hypothesis: FormulaId,
+    ) -> Option<usize> {
+        if let Some((action, first, count)) = self.guard
+            && let Some(conjunct) = place.checked_sub(first)
+            && conjunct < count
+        {
+            return facts.guarding(action, conjunct);
+        }
+        let point = self.point?;
+        let asserted = asserted_at(entered, point)?;
+        let conjunct = asserted.iter().position(|formula| *formula == hypothesis)?;
+        facts.asserted(point, conjunct)
+    }
+}
+
+/// The facts that are marked hypotheses of a goal.
 fn facts_marked(
     alloc: Global,
     facts: &Facts,
     entered: &[Asserted],
-    condition: &Condition,
+    sought: Sought<'_>,
     marks: &[bool],
 ) -> Result<Vec<usize>, OutOfMemory> {
     let mut marked = Vec::new(alloc);
-    let Some(point) = condition.place.point else {
-        return Ok(marked);
-    };
-    let asserted = asserted_at(entered, point).unwrap_or(&[]);
-    let hypotheses = condition.goal.hypotheses.as_slice();
-    for (hypothesis, mark) in hypotheses.iter().zip(marks) {
-        if !*mark {
+    let hypotheses = sought.goal.hypotheses.as_slice();
+    for (place, hypothesis) in hypotheses.iter().enumerate() {
+        if !is_set(marks, place) {
             continue;
         }
-        let Some(conjunct) = asserted.iter().position(|formula| *formula == *hypothesis) else {
-            continue;
-        };
-        if let Some(fact) = facts.number(point, conjunct) {
+        if let Some(fact) = sought.fact(facts, entered, place, *hypothesis) {
             marked.push(fact)?;
         }
     }
     Ok(marked)
 }
 
-/// What a condition needs.
+/// What a goal needs.
 fn need_of(
     alloc: Global,
     terms: &Terms,
     view: View<'_>,
     entered: &[Asserted],
-    condition: &Condition,
+    sought: Sought<'_>,
 ) -> Result<Need, OutOfMemory>
-    requires { IsCondition terms.now condition.now }
+    requires hypotheses { AreFormulas terms.now sought.goal.now.hypotheses }
+    requires goal { IsFormula terms.now sought.goal.now.goal }
 {
-    let hypotheses = condition.goal.hypotheses.as_slice();
-    let searched = search(alloc, terms, &condition.goal, &[], &[], view.budget)?;
+    let count = sought.goal.hypotheses.as_slice().len();
+    let searched = search(alloc, terms, sought.goal, &[], &[], view.budget)?;
     let is_found = matches!(searched.end, End::Found(_));
-    let mut used = marks(alloc, hypotheses, !is_found)?;
+    let mut used = marks(alloc, count, !is_found)?;
     if let End::Found(proof) = &searched.end {
         mark_used(&mut used, proof);
     }
     Ok(Need {
-        asked: view.ways.asked(view.facts, condition),
+        asked: sought.asked,
         is_found,
-        used: facts_marked(alloc, view.facts, entered, condition, &used)?,
+        used: facts_marked(alloc, view.facts, entered, sought, &used)?,
     })
+}
+
+/// Appends what the conjuncts of the guard of an action need.
+fn push_guard(
+    alloc: Global,
+    terms: &Terms,
+    view: View<'_>,
+    entered: &[Asserted],
+    condition: &Condition,
+    action: ActionId,
+    needs: &mut Vec<Need>,
+) -> Result<(), OutOfMemory>
+    requires { IsCondition terms.now condition.now }
+{
+    let parts = conjuncts(alloc, terms, condition.goal.goal)?;
+    for conjunct in 0..parts.len() {
+        let part = formula_at(terms, &parts, conjunct);
+        let goal = asking(terms, &condition.goal, part)?;
+        let sought = Sought {
+            goal: &goal,
+            point: condition.place.point,
+            guard: None,
+            asked: view.facts.guarding(action.0 as usize, conjunct),
+        };
+        needs.push(need_of(alloc, terms, view, entered, sought)?)?;
+    }
+    Ok(())
+}
+
+/// What a condition needs that stands against another client's action, whose guard is the hypothesis at this place.
+fn need_against(
+    alloc: Global,
+    terms: &Terms,
+    view: View<'_>,
+    entered: &[Asserted],
+    condition: &Condition,
+    action: usize,
+    place: usize,
+) -> Result<Need, OutOfMemory>
+    requires { IsCondition terms.now condition.now }
+{
+    let (goal, count) = opened(alloc, terms, &condition.goal, place)?;
+    let sought = Sought {
+        goal: &goal,
+        point: condition.place.point,
+        guard: Some((action, place, count)),
+        asked: view.ways.asked(view.facts, condition),
+    };
+    need_of(alloc, terms, view, entered, sought)
+}
+
+/// Appends what a condition needs.
+fn push_need(
+    alloc: Global,
+    terms: &Terms,
+    view: View<'_>,
+    entered: &[Asserted],
+    condition: &Condition,
+    needs: &mut Vec<Need>,
+) -> Result<(), OutOfMemory>
+    requires { IsCondition terms.now condition.now }
+{
+    if let Some(action) = guarded(view.development, condition)
+        && view.facts.is_planned(action)
+    {
+        return push_guard(alloc, terms, view, entered, condition, action, needs);
+    }
+    if let Some((action, place)) = withstood(view.development, condition) {
+        let need = need_against(alloc, terms, view, entered, condition, action, place)?;
+        needs.push(need)?;
+        return Ok(());
+    }
+    let sought = Sought {
+        goal: &condition.goal,
+        point: condition.place.point,
+        guard: None,
+        asked: view.ways.asked(view.facts, condition),
+    };
+    needs.push(need_of(alloc, terms, view, entered, sought)?)?;
+    Ok(())
 }
 
 /// Appends what conditions need, whose assertions were entered.
@@ -167,8 +269,7 @@ fn push_entered(
     requires { AreConditions terms.now conditions.now }
 {
     for condition in conditions {
-        let need = need_of(alloc, terms, view, entered, condition)?;
-        needs.push(need)?;
+        push_need(alloc, terms, view, entered, condition, needs)?;
     }
     Ok(())
 }

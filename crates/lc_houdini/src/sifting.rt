@@ -1,5 +1,7 @@
 //! Facts that do not hold, and those that nothing needs, are left out.
 use crate::facts::Facts;
+use crate::guards::marked_actions;
+use crate::marks::{are_all, is_set, marks, set};
 use crate::needs::Need;
 use crate::searching::needs_of;
 use lc_base::{Fault, OutOfMemory};
@@ -32,21 +34,12 @@ impl Round {
             Err(Fault::Refused(_)) => return Ok(None),
             Err(Fault::OutOfMemory) => return Err(OutOfMemory),
         };
-        let facts = Facts::of(alloc, plan, &completion.development)?;
+        let facts = Facts::of(alloc, forms, plan, &completion.development)?;
         let needs = needs_of(alloc, &completion.development, &facts, budget)?;
         Ok(Some(Round {
             count: facts.count,
             needs,
         }))
-    }
-
-    /// A mark for each fact.
-    fn marks(&self, alloc: Global, mark: bool) -> Result<Vec<bool>, OutOfMemory> {
-        let mut marks = Vec::with_capacity(alloc, self.count)?;
-        for _ in 0..self.count {
-            marks.push(mark)?;
-        }
-        Ok(marks)
     }
 
     /// Of how many conditions no proof was found.
@@ -62,7 +55,7 @@ impl Round {
 
     /// Marks the facts of which all conditions have proofs.
     fn holding(&self, alloc: Global) -> Result<Vec<bool>, OutOfMemory> {
-        let mut holding = self.marks(alloc, true)?;
+        let mut holding = marks(alloc, self.count, true)?;
         for need in &self.needs {
             if let Some(fact) = need.asked {
                 if !need.is_found {
@@ -75,7 +68,7 @@ impl Round {
 
     /// Marks the facts that are used for what is no guess, and for marked ones.
     fn needed(&self, alloc: Global) -> Result<Vec<bool>, OutOfMemory> {
-        let mut needed = self.marks(alloc, false)?;
+        let mut needed = marks(alloc, self.count, false)?;
         for _ in 0..=self.count {
             if !self.spread(&mut needed) {
                 return Ok(needed);
@@ -103,30 +96,18 @@ impl Round {
     }
 }
 
-fn is_set(marks: &[bool], place: usize) -> bool {
-    marks.get(place).copied().unwrap_or(false)
+/// What is planned that may be left out.
+#[derive(Drop)]
+struct Parts {
+    asserts: Vec<Planned>,
+    actions: Forms,
 }
 
-fn set(marks: &mut [bool], place: usize, mark: bool) {
-    if let Some(at) = marks.get_mut(place) {
-        *at = mark;
-    }
-}
-
-/// Whether all are marked.
-fn are_all(marks: &[bool]) -> bool {
-    !marks.contains(&false)
-}
-
-/// What is asserted by a plan, without the facts that are not marked.
-fn marked_only(
-    alloc: Global,
-    asserts: &[Planned],
-    marks: &[bool],
-) -> Result<Vec<Planned>, OutOfMemory> {
-    let mut left = Vec::with_capacity(alloc, asserts.len())?;
+/// The parts of a plan without the facts that are not marked.
+fn marked_parts(alloc: Global, plan: &Plan, marks: &[bool]) -> Result<Parts, OutOfMemory> {
+    let mut asserts = Vec::with_capacity(alloc, plan.asserts.len())?;
     let mut number = 0usize;
-    for planned in asserts {
+    for planned in &plan.asserts {
         let mut items = Vec::new(alloc);
         for item in planned.items.parts(alloc)? {
             if is_set(marks, number) {
@@ -134,12 +115,22 @@ fn marked_only(
             }
             number = number.saturating_add(1);
         }
-        left.push(Planned {
+        asserts.push(Planned {
             place: planned.place,
             items: Forms::of(alloc, &items)?,
         })?;
     }
-    Ok(left)
+    let actions = marked_actions(alloc, &plan.actions, marks, number)?;
+    Ok(Parts { asserts, actions })
+}
+
+/// Puts parts in a plan, and hands out those that it had.
+fn exchange(plan: &mut Plan, parts: Parts) -> Parts {
+    let Parts { asserts, actions } = parts;
+    Parts {
+        asserts: mem::replace(&mut plan.asserts, asserts),
+        actions: mem::replace(&mut plan.actions, actions),
+    }
 }
 
 /// A plan without the facts that nothing needs, unless fewer proofs are found without them.
@@ -155,17 +146,20 @@ fn least(
     if are_all(&needed) {
         return Ok(plan);
     }
-    let fewer = marked_only(alloc, &plan.asserts, &needed)?;
-    let all = mem::replace(&mut plan.asserts, fewer);
+    let fewer = marked_parts(alloc, &plan, &needed)?;
+    let all = exchange(&mut plan, fewer);
     match Round::of(alloc, forms, &plan, budget)? {
         Some(again) if again.unfound() <= round.unfound() => {}
-        _ => plan.asserts = all,
+        _ => {
+            let _fewer = exchange(&mut plan, all);
+        }
     }
     Ok(plan)
 }
 
 /// A plan for a short development with these forms, without the guessed facts of which a proof is not found in at most `budget` steps, and without
-/// those that nothing needs. What is planned for edges stays, and so does a plan by which no development is completed.
+/// those that nothing needs: what is asserted at points, and what guards of actions ask for. What is planned else stays, and so does a plan by which no
+/// development is completed.
 pub fn sifted(alloc: Global, forms: &Forms, plan: Plan, budget: u64) -> Result<Plan, OutOfMemory> {
     let mut plan = plan;
     for _ in 0..ROUNDS {
@@ -176,7 +170,8 @@ pub fn sifted(alloc: Global, forms: &Forms, plan: Plan, budget: u64) -> Result<P
         if are_all(&holding) {
             return least(alloc, forms, plan, &round, budget);
         }
-        plan.asserts = marked_only(alloc, &plan.asserts, &holding)?;
+        let fewer = marked_parts(alloc, &plan, &holding)?;
+        let _all = exchange(&mut plan, fewer);
     }
     Ok(plan)
 }
