@@ -1,7 +1,8 @@
 //! The lines of a text on which something inferred begins. Nothing is promised of them.
 use lc_base::OutOfMemory;
 use lc_fill::Plan;
-use lc_outline::Development;
+use lc_houdini::written_actions;
+use lc_sexp::Forms;
 use std::alloc::Global;
 
 /// What is inferred, and how far a text was looked at.
@@ -56,21 +57,20 @@ impl Look<'_> {
     }
 }
 
-/// A mark for each line of the text of a development that was completed by a plan.
+/// A mark for each line of the text to which forms were completed by a plan.
 pub(crate) fn inferred_lines(
     alloc: Global,
     text: &[u8],
+    forms: &Forms,
     plan: &Plan,
-    development: &Development,
 ) -> Result<Vec<bool>, OutOfMemory> {
     let mut marks = Vec::new(alloc);
     let Ok(text) = str::from_utf8(text) else {
         return Ok(marks);
     };
-    let planned = plan.actions.cursor().len();
     let mut look = Look {
         plan,
-        written: development.parts().actions.len().saturating_sub(planned),
+        written: written_actions(forms),
         actions: 0,
         points: 0,
     };

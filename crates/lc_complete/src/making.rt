@@ -63,17 +63,12 @@ fn completed_by(alloc: Global, forms: &Forms, plan: &mut Plan) -> Result<Complet
     }
 }
 
-/// The text of a development that was completed by a plan, over lines. Those on which something inferred begins are marked.
-fn shown(
-    alloc: Global,
-    text: &[u8],
-    plan: &Plan,
-    development: &Development,
-) -> Result<Vec<u8>, OutOfMemory>
-    ensures { IfOk result (λ shown. (forms : Trees) × (marks : List Bool) × ReadsAs text.now forms × (shown.items ≡ noted marks (laid_out forms))) }
+/// A text to which forms were completed by a plan, over lines. Those on which something inferred begins are marked.
+fn shown(alloc: Global, text: &[u8], forms: &Forms, plan: &Plan) -> Result<Vec<u8>, OutOfMemory>
+    ensures { IfOk result (λ shown. (trees : Trees) × (marks : List Bool) × ReadsAs text.now trees × (shown.items ≡ noted marks (laid_out trees))) }
 {
     let laid = laid(alloc, text)?;
-    let marks = inferred_lines(alloc, &laid, plan, development)?;
+    let marks = inferred_lines(alloc, &laid, forms, plan)?;
     let shown = noted(alloc, &laid, &marks)?;
     Ok(shown)
 }
@@ -90,7 +85,7 @@ pub fn complete(alloc: Global, forms: &Forms, budget: u64) -> Result<Made, Fault
     let guessed = guess(alloc, forms, short.lacking())?;
     let mut plan = sifted(alloc, forms, guessed, budget)?;
     let completion = completed_by(alloc, forms, &mut plan)?;
-    let text = shown(alloc, &completion.text, &plan, &completion.development)?;
+    let text = shown(alloc, &completion.text, forms, &plan)?;
     let Completion { development, .. } = completion;
     Ok(Made { text, development })
 }
