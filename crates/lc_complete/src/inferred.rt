@@ -35,23 +35,25 @@ impl Look<'_> {
         }
     }
 
-    /// Whether something inferred begins where a list does.
-    fn takes_list(&mut self, list: &str) -> bool {
-        if list.starts_with("action ") {
-            return self.takes_action();
+    /// Whether something inferred begins where a list does, which begins with a word.
+    fn takes_list(&mut self, word: &str) -> bool {
+        match word {
+            "action" => self.takes_action(),
+            "point" => {
+                self.points = self.points.saturating_add(1);
+                false
+            }
+            "assert" => self.has_facts(),
+            _ => false,
         }
-        if list.starts_with("point ") {
-            self.points = self.points.saturating_add(1);
-            return false;
-        }
-        list.starts_with("assert ") && self.has_facts()
     }
 
     /// Whether something inferred begins on a line.
     fn takes_line(&mut self, line: &str) -> bool {
         let mut is_inferred = false;
         for list in line.split('(').skip(1) {
-            is_inferred |= self.takes_list(list);
+            let word = list.split(' ').next().unwrap_or("");
+            is_inferred |= self.takes_list(word);
         }
         is_inferred
     }

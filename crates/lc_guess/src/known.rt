@@ -139,10 +139,11 @@ impl<'a> Place<'a, '_> {
         is_owned(facts, index)
     }
 
-    /// The cell of what the client owns that is read into a local here, if one is.
+    /// The cell of what the client owns, or of what it reached where no column tells places, that is read into a local here, if one is.
     fn cell_read(self, alloc: Global, local: &str) -> Result<Option<String>, OutOfMemory> {
         let index = nth_text(self.point.code, 1);
-        if self.point.word != "load" || !self.is_owned(index) {
+        let is_reached = self.body.places.is_none() && self.body.locals.contains(index);
+        if self.point.word != "load" || !(is_reached || self.is_owned(index)) {
             return Ok(None);
         }
         let columns = self.body.object.columns_of(first_text(self.point.code));
@@ -154,7 +155,7 @@ impl<'a> Place<'a, '_> {
         Ok(None)
     }
 
-    /// What a term that is returned is here, if it stays behind it, or is read here of what the client owns.
+    /// What a term that is returned is here, if it stays behind it, or is read here of such a cell.
     fn term_at(
         self,
         alloc: Global,

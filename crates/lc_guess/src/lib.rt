@@ -21,6 +21,7 @@ mod placing;
 mod said;
 mod seen;
 mod signature;
+mod standing;
 mod stores;
 mod switching;
 mod telling;

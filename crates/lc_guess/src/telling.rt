@@ -9,6 +9,7 @@ use crate::helping::{push_posted, unposted};
 use crate::noting::{condition_of, push_noted};
 use crate::placing::{push_places, push_taken};
 use crate::seen::{Body, Seen};
+use crate::standing::push_standing;
 use crate::text::{
     each_cell, each_item, first_part, first_text, items_within, later, printed, push_each,
     push_parts, text_of, within_first,
@@ -255,6 +256,7 @@ fn new_at(
     push_cells(alloc, &mut new, seen)?;
     push_taken(alloc, &mut new, seen, stored)?;
     push_places(alloc, &mut new, seen)?;
+    push_standing(alloc, &mut new, seen)?;
     push_noted(alloc, &mut new, seen)?;
     push_posted(alloc, &mut new, seen)?;
     Ok(new)

@@ -158,10 +158,13 @@ fn least(
 }
 
 /// A plan for a short development with these forms, without the guessed facts of which a proof is not found in at most `budget` steps, and without
-/// those that nothing needs: what is asserted at points, and what guards of actions ask for. What is planned else stays, and so does a plan by which no
-/// development is completed.
+/// those that nothing needs: what is asserted at points, and what guards of actions ask for. What is planned else stays, and so does all if the budget is
+/// 0, or no development is completed by the plan.
 pub fn sifted(alloc: Global, forms: &Forms, plan: Plan, budget: u64) -> Result<Plan, OutOfMemory> {
     let mut plan = plan;
+    if budget == 0 {
+        return Ok(plan);
+    }
     for _ in 0..ROUNDS {
         let Some(round) = Round::of(alloc, forms, &plan, budget)? else {
             return Ok(plan);

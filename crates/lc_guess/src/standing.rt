@@ -1,0 +1,93 @@
+//! What the invariant says of all that is at places, said of a thing that was read there, where no column tells the place of each. Whether others
+//! make it false is not looked at: what does not hold is for lc_houdini to leave out.
+use crate::fact::{Basis, Fact};
+use crate::formula::{cell_at, has_word, holds, other_side};
+use crate::object::Object;
+use crate::seen::Seen;
+use crate::text::{
+    first_part, first_text, later, nth_text, printed_first, push_parts, text_of, within_first,
+};
+use lc_base::OutOfMemory;
+use lc_sexp::Cursor;
+use std::alloc::Global;
+
+/// The column in which the invariant finds the first cell of a column: the `OTHER` of `(= (rd COLUMN 0) (rd OTHER T))`, if it says it.
+fn tied_column<'b>(
+    alloc: Global,
+    object: &'b Object<'_>,
+    column: &str,
+) -> Result<Option<&'b str>, OutOfMemory> {
+    let cell = cell_at(alloc, column, "0")?;
+    for claim in &object.claims {
+        if let Some(other) = other_side(claim, &cell)
+            && let Some(behind) = other.strip_prefix("(rd ")
+            && let Some((name, _)) = behind.split_once(" ")
+        {
+            return Ok(Some(name));
+        }
+    }
+    Ok(None)
+}
+
+/// Where what is said of a local is claimed: where the next test finds that it is not 0, if it is that test.
+fn premise_for(alloc: Global, seen: Seen<'_, '_>, local: &str) -> Result<String, OutOfMemory> {
+    if let Some(next) = seen.next()
+        && next.word == "if"
+    {
+        let test = format!(in alloc; "(= {local} 0)")?;
+        if printed_first(alloc, next.code)?.as_str() == test.as_str() {
+            return Ok(format!(in alloc; "(not {test})")?);
+        }
+    }
+    Ok(String::new(alloc))
+}
+
+/// Appends what a claim for all places, `V (=> BOUNDS F)`, says of what is there in a column, said of a local.
+fn push_instance(
+    alloc: Global,
+    told: &mut Vec<Fact>,
+    claim: Cursor<'_>,
+    content: &str,
+    premise: &str,
+    local: &str,
+) -> Result<(), OutOfMemory> {
+    let variable = first_text(claim);
+    let cell = cell_at(alloc, content, variable)?;
+    let mut parts = Vec::new(alloc);
+    if let Some(part) = first_part(later(later(within_first(later(claim))))) {
+        push_parts(alloc, &mut parts, part)?;
+    }
+    for part in parts {
+        let said = part.replace(alloc, cell.as_str(), local)?;
+        if said.as_str() != part.as_str() && !has_word(&said, &[variable, "forall", "exists"]) {
+            let premise = String::from_str(alloc, premise)?;
+            told.push(Fact::under(alloc, premise, said, Basis::Stays))?;
+        }
+    }
+    Ok(())
+}
+
+/// Appends what is known of the things that are read at an edge.
+pub(crate) fn push_standing(
+    alloc: Global,
+    told: &mut Vec<Fact>,
+    seen: Seen<'_, '_>,
+) -> Result<(), OutOfMemory> {
+    if seen.point.word != "load" || seen.body.places.is_some() {
+        return Ok(());
+    }
+    let index = nth_text(seen.point.code, 1);
+    for (column, local) in seen.cells_read() {
+        let local = text_of(local);
+        if seen.body.locals.contains(index) {
+            let claim = holds(alloc, column, index, local)?;
+            told.push(Fact::plain(alloc, claim))?;
+        } else if let Some(content) = tied_column(alloc, seen.body.object, column)? {
+            let premise = premise_for(alloc, seen, local)?;
+            for claim in &seen.body.object.general {
+                push_instance(alloc, told, *claim, content, &premise, local)?;
+            }
+        }
+    }
+    Ok(())
+}
