@@ -1,14 +1,13 @@
 use Rattle.std.proofs.Common.{◌∙◌, inr, refl, subst}
-use Rattle.lc_outline.specs.DevelopmentView.{development_view}
-use Rattle.lc_outline_text.specs.Developments.{file_reading}
-use Rattle.lc_reading.specs.Files.{Says}
+use Rattle.lc_short.specs.Shorts.{SaysShort}
+use Rattle.lc_short.specs.ShortView.{short_view}
 use Rattle.lincheck.proofs.Beginnings.{begun_refused}
 use Rattle.lincheck.proofs.new.answer_new.Goals as goal
 
 pub returns-in-Ok : goal.returns-in-Ok
 returns-in-Ok c =
-    let D = development_view c.in-Ok.field-0 in
-    inr (D, subst (λ t. Says file_reading t D) c.deref.ensures.value c.in-Ok.ensures, c.in_ok-text.ensures, refl)
+    let S = short_view c.in-Ok.field-0 in
+    inr (S, subst (λ t. SaysShort t S) c.deref.ensures.value c.in-Ok.ensures, c.in_ok-text.ensures, refl)
 
 pub returns-in-Err : goal.returns-in-Err
 returns-in-Err c =
