@@ -1,16 +1,24 @@
-//! The words of the command line, and what this program reads in them beside what `execute` does: `-o FILE` and `--json`, and whether
-//! standard error is a terminal.
+//! The words of the command line, and what this program reads in them beside what `execute` does: `-o FILE`, `--certificate FILE` and `--json`, and
+//! whether standard error is a terminal.
 use std::io::IsTerminal;
 use std::{env, io};
 
 /// What the program calls itself, however it was called.
 const NAME: &str = "lincheck";
 
-/// The words of the command line, the file into which the answer is to be put, if there is one, and whether what is said is said by
-/// objects of JSON.
+/// A file that something is to be put into.
+#[derive(Drop)]
+pub enum Put {
+    /// The answer of `prove` or `carry`, if it is a certificate.
+    Answer(String),
+    /// A certificate of what `complete` answers.
+    Certificate(String),
+}
+
+/// The words of the command line, what is to be put into a file, if anything is, and whether what is said is said by objects of JSON.
 pub struct Given {
     pub words: Vec<String>,
-    pub output: Option<String>,
+    pub put: Option<Put>,
     pub is_json: bool,
 }
 
@@ -18,7 +26,7 @@ impl Drop for Given {
     fn drop(self) {
         let Given {
             words: _,
-            output: _,
+            put: _,
             is_json: _,
         } = self;
     }
@@ -32,6 +40,7 @@ fn reads_files(command: &str) -> bool {
             | "judge"
             | "draw"
             | "order"
+            | "complete"
             | "show"
             | "conditions"
             | "check"
@@ -62,28 +71,39 @@ fn is_explained(rt: &HostRuntime, words: &[String], is_json: bool) -> bool {
     is_json || (!has_word(words, "--quiet") && rt.stderr().is_terminal())
 }
 
-/// Whether the answer to a command may be put into a file.
-fn may_be_put(words: &[String]) -> bool {
-    match words.get(1) {
-        Some(command) => matches!(command.as_str(), "prove" | "carry"),
-        None => false,
+/// The option of a command before the name of a file that something is put into, if it has one.
+fn put_option(words: &[String]) -> Option<&'static str> {
+    match words.get(1)?.as_str() {
+        "prove" | "carry" => Some("-o"),
+        "complete" => Some("--certificate"),
+        _ => None,
     }
 }
 
-/// The words without `-o FILE`, and FILE. An `-o` that is last stays among the words, which are wrong then.
-fn without_output(rt: &HostRuntime, words: Vec<String>, is_json: bool) -> io::Result<Given> {
-    let is_sought = may_be_put(words.as_slice());
+/// What is put into a file after this option.
+fn put_of(option: &str, path: String) -> Put {
+    if option == "-o" {
+        Put::Answer(path)
+    } else {
+        Put::Certificate(path)
+    }
+}
+
+/// The words without the option that puts something into a file, and what it puts there. An option that is last stays among the words, which
+/// are wrong then.
+fn without_put(rt: &HostRuntime, words: Vec<String>, is_json: bool) -> io::Result<Given> {
+    let wanted = put_option(words.as_slice()).unwrap_or("");
     let mut given = Given {
         words: Vec::new(rt.alloc()),
-        output: None,
+        put: None,
         is_json,
     };
     let mut option = None;
     for word in words {
         if option.is_some() {
             option = None;
-            given.output = Some(word);
-        } else if is_sought && given.output.is_none() && word.as_str() == "-o" {
+            given.put = Some(put_of(wanted, word));
+        } else if given.put.is_none() && !wanted.is_empty() && word.as_str() == wanted {
             option = Some(word);
         } else {
             given.words.push(word)?;
@@ -112,5 +132,5 @@ pub fn words_of(rt: &HostRuntime) -> io::Result<Given> {
             words.push(String::from_str(rt.alloc(), "--explain")?)?;
         }
     }
-    without_output(rt, words, is_json)
+    without_put(rt, words, is_json)
 }

@@ -1,16 +1,18 @@
 //! The program `lincheck`: `lincheck::execute` over the files of the system and its streams.
 #![tactic(auto)]
 
+mod certified;
 mod given;
 mod objects;
 mod output;
 
-use given::{Given, words_of};
-use lincheck::{COMMAND_LINE_FAULT, Disk, OUT_OF_MEMORY, execute};
+use certified::certify;
+use given::{Given, Put, words_of};
+use lincheck::{COMMAND_LINE_FAULT, Disk, OUT_OF_MEMORY, SUCCESS, execute};
 use objects::write_objects;
-use output::{print_whole, put_answer};
+use output::{print_whole, put_answer, put_certificate};
 use std::io;
-use std::io::ErrorKind;
+use std::io::{ErrorKind, Write};
 use std::process::ExitCode;
 
 fn main(rt: HostRuntime) -> ExitCode {
@@ -27,24 +29,40 @@ fn main(rt: HostRuntime) -> ExitCode {
         return ExitCode::from(put_objects(&rt, &given, status, &out, said));
     }
     let mut err = rt.stderr();
-    let Some(path) = &given.output else {
+    if given.put.is_none() {
         let mut out = rt.stdout();
         let status = execute(&rt, rt.alloc(), words, &mut files, &mut out, &mut err);
         return ExitCode::from(status);
-    };
+    }
     let mut out = Vec::new(rt.alloc());
     let status = execute(&rt, rt.alloc(), words, &mut files, &mut out, &mut err);
-    ExitCode::from(put_answer(&rt, path.as_str(), status, &out, &mut err))
+    let Some(Put::Certificate(path)) = &given.put else {
+        return ExitCode::from(put(&rt, &given, status, &out, &mut err));
+    };
+    let mut certificate = Vec::new(rt.alloc());
+    let mut status = print_whole(&rt, status, &out, &mut err);
+    if status == SUCCESS {
+        status = certify(&rt, rt.alloc(), &out, &mut certificate, &mut err);
+    }
+    if status == SUCCESS {
+        status = put_certificate(&rt, path.as_str(), &certificate, &mut err);
+    }
+    ExitCode::from(status)
+}
+
+/// Puts the answer of this status into the file that is named, or prints it; returns the status.
+fn put<E: Write>(rt: &HostRuntime, given: &Given, status: u8, out: &[u8], err: &mut E) -> u8 {
+    match &given.put {
+        Some(Put::Answer(path)) => put_answer(rt, path.as_str(), status, out, err),
+        _ => print_whole(rt, status, out, err),
+    }
 }
 
 /// Puts the answer of this status into the file that is named, or prints it; says on standard error by objects what is to be said; and
 /// returns the status.
 fn put_objects(rt: &HostRuntime, given: &Given, status: u8, out: &[u8], said: Vec<u8>) -> u8 {
     let mut said = said;
-    let status = match &given.output {
-        Some(path) => put_answer(rt, path.as_str(), status, out, &mut said),
-        None => print_whole(rt, status, out, &mut said),
-    };
+    let status = put(rt, given, status, out, &mut said);
     write_objects(rt.alloc(), status, out, &said, &mut rt.stderr());
     status
 }

@@ -1,4 +1,4 @@
-//! An answer that is put into a file: `-o FILE` after the words of `prove` and `carry`.
+//! What is put into a file: by `-o FILE` after the words of `prove` and `carry`, and by `--certificate FILE` after those of `complete`.
 use lincheck::{INPUT_OR_OUTPUT_FAULT, SUCCESS};
 use std::io::Write;
 use std::{fs, io};
@@ -89,11 +89,27 @@ pub fn put_answer<E: Write>(
 ) -> u8 {
     match hand_out(rt, path, status, text) {
         Ok(status) => status,
-        Err(error) => {
-            let _ = writeln!(err, "lincheck: cannot write {path}\n  {error}");
-            INPUT_OR_OUTPUT_FAULT
-        }
+        Err(error) => cannot_write(path, &error, err),
     }
+}
+
+/// Puts a certificate into the file at a path. Returns the status, and says why if that cannot be done; the file stays as it was then.
+pub fn put_certificate<E: Write>(
+    rt: &HostRuntime,
+    path: &str,
+    certificate: &[u8],
+    err: &mut E,
+) -> u8 {
+    match put_file(rt, path, certificate) {
+        Ok(()) => SUCCESS,
+        Err(error) => cannot_write(path, &error, err),
+    }
+}
+
+/// Says that a file cannot be written, and why.
+fn cannot_write<E: Write>(path: &str, error: &io::Error, err: &mut E) -> u8 {
+    let _ = writeln!(err, "lincheck: cannot write {path}\n  {error}");
+    INPUT_OR_OUTPUT_FAULT
 }
 
 /// Prints an answer of this status; returns the status, and says if it cannot be printed.
