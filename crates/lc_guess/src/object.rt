@@ -1,6 +1,6 @@
 //! What is looked at of an object.
 use crate::changes::{Change, Column, find_columns, is_of_bits};
-use crate::text::{each_item, first_text, items_within, later, mentions, push_parts};
+use crate::text::{each_item, first_text, items_within, later, mentions, push_each, push_parts};
 use lc_base::OutOfMemory;
 use lc_reading::{NameTable, Part, behind_word};
 use lc_sexp::Cursor;
@@ -23,6 +23,8 @@ pub(crate) struct Object<'a> {
     pub(crate) claims: Vec<String>,
     /// The claims for all numbers, `V F`, of the beginning of it.
     pub(crate) general: Vec<Cursor<'a>>,
+    /// What holds of idle clients.
+    pub(crate) idle: Vec<String>,
     /// The names of the actions that it declares.
     pub(crate) actions: NameTable<'a>,
     /// Whether clients mark calls of others.
@@ -38,6 +40,7 @@ impl Drop for Object<'_> {
             columns: _,
             claims: _,
             general: _,
+            idle: _,
             actions: _,
             is_helped: _,
         } = self;
@@ -81,6 +84,7 @@ impl<'a> Object<'a> {
         let mut columns = Vec::new(alloc);
         let mut claims = Vec::new(alloc);
         let mut general = Vec::new(alloc);
+        let mut idle = Vec::new(alloc);
         let mut actions = NameTable::new(alloc);
         for part in each_item(parts) {
             let inside = items_within(part);
@@ -91,6 +95,7 @@ impl<'a> Object<'a> {
                     columns.push(later(behind))?;
                 }
                 "action" => actions = actions.enter(first_text(behind))?,
+                "idle" => push_each(alloc, &mut idle, behind)?,
                 "invariant" => {
                     for conjunct in each_item(behind) {
                         push_claims(alloc, &mut claims, conjunct)?;
@@ -108,6 +113,7 @@ impl<'a> Object<'a> {
             columns,
             claims,
             general,
+            idle,
             actions,
             is_helped,
         })

@@ -1,11 +1,13 @@
-//! What the invariant says of all that is at places, said of a thing that was read there, where no column tells the place of each. Whether others
-//! make it false is not looked at: what does not hold is for lc_houdini to leave out.
+//! Facts that are tried, where no column tells the place of each thing: what the invariant says of all that is at places, said of a thing that was
+//! read there; what is read, or stored by the client's own number; and what holds of idle clients, or does not. Whether others make
+//! them false is not looked at: what does not hold is for lc_houdini to leave out.
 use crate::fact::{Basis, Fact};
-use crate::formula::{cell_at, has_word, holds, other_side};
+use crate::formula::{cell_at, has_word, holds, negated, other_side};
 use crate::object::Object;
-use crate::seen::Seen;
+use crate::seen::{Body, Seen};
 use crate::text::{
-    first_part, first_text, later, nth_text, printed_first, push_parts, text_of, within_first,
+    each_cell, first_part, first_text, later, nth_text, printed, printed_first, push_parts,
+    text_of, within_first,
 };
 use lc_base::OutOfMemory;
 use lc_sexp::Cursor;
@@ -67,15 +69,8 @@ fn push_instance(
     Ok(())
 }
 
-/// Appends what is known of the things that are read at an edge.
-pub(crate) fn push_standing(
-    alloc: Global,
-    told: &mut Vec<Fact>,
-    seen: Seen<'_, '_>,
-) -> Result<(), OutOfMemory> {
-    if seen.point.word != "load" || seen.body.places.is_some() {
-        return Ok(());
-    }
+/// Appends what is claimed of the things that are read at an edge.
+fn push_things(alloc: Global, told: &mut Vec<Fact>, seen: Seen<'_, '_>) -> Result<(), OutOfMemory> {
     let index = nth_text(seen.point.code, 1);
     for (column, local) in seen.cells_read() {
         let local = text_of(local);
@@ -90,4 +85,66 @@ pub(crate) fn push_standing(
         }
     }
     Ok(())
+}
+
+/// Appends that cells hold what the client stores in them by its own number.
+fn push_signed(alloc: Global, told: &mut Vec<Fact>, seen: Seen<'_, '_>) -> Result<(), OutOfMemory> {
+    let behind = later(seen.point.code);
+    let values = match (seen.point.word, seen.edge.word) {
+        ("store", _) => within_first(later(behind)),
+        ("cas", "then") => within_first(later(later(behind))),
+        _ => return Ok(()),
+    };
+    let index = seen.point.index(alloc)?;
+    for (column, value) in each_cell(seen.columns(), values) {
+        let value = printed(alloc, value)?;
+        if has_word(&value, &["self"]) {
+            told.push(Fact::plain(alloc, holds(alloc, column, &index, &value)?))?;
+        }
+    }
+    Ok(())
+}
+
+/// Appends what holds of idle clients where something is stored that it speaks of, and that it does not hold.
+fn push_idle(
+    alloc: Global,
+    told: &mut Vec<Fact>,
+    seen: Seen<'_, '_>,
+    stored: &[&str],
+) -> Result<(), OutOfMemory> {
+    for claim in &seen.body.object.idle {
+        if has_word(claim, stored) {
+            told.push(Fact::plain(alloc, claim.clone()?))?;
+            told.push(Fact::plain(alloc, negated(alloc, claim)?))?;
+        }
+    }
+    Ok(())
+}
+
+/// What is tried at the first point of a body: what holds of idle clients.
+pub(crate) fn standing_first(alloc: Global, body: Body<'_, '_>) -> Result<Vec<Fact>, OutOfMemory> {
+    let mut facts = Vec::new(alloc);
+    if body.places.is_none() {
+        for claim in &body.object.idle {
+            facts.push(Fact::plain(alloc, claim.clone()?))?;
+        }
+    }
+    Ok(facts)
+}
+
+/// Appends what is tried behind an edge at which something is stored in these columns.
+pub(crate) fn push_standing(
+    alloc: Global,
+    told: &mut Vec<Fact>,
+    seen: Seen<'_, '_>,
+    stored: &[&str],
+) -> Result<(), OutOfMemory> {
+    if seen.body.places.is_some() {
+        return Ok(());
+    }
+    if seen.point.word == "load" {
+        push_things(alloc, told, seen)?;
+    }
+    push_signed(alloc, told, seen)?;
+    push_idle(alloc, told, seen, stored)
 }

@@ -9,7 +9,7 @@ use crate::helping::{push_posted, unposted};
 use crate::noting::{condition_of, push_noted};
 use crate::placing::{push_places, push_taken};
 use crate::seen::{Body, Seen};
-use crate::standing::push_standing;
+use crate::standing::{push_standing, standing_first};
 use crate::text::{
     each_cell, each_item, first_part, first_text, items_within, later, printed, push_each,
     push_parts, text_of, within_first,
@@ -256,7 +256,7 @@ fn new_at(
     push_cells(alloc, &mut new, seen)?;
     push_taken(alloc, &mut new, seen, stored)?;
     push_places(alloc, &mut new, seen)?;
-    push_standing(alloc, &mut new, seen)?;
+    push_standing(alloc, &mut new, seen, stored)?;
     push_noted(alloc, &mut new, seen)?;
     push_posted(alloc, &mut new, seen)?;
     Ok(new)
@@ -399,7 +399,8 @@ pub(crate) fn tell<'a>(
         facts: Vec::new(alloc),
         known: Vec::new(alloc),
     };
-    let first = unposted(alloc, body, ways.points)?;
+    let mut first = unposted(alloc, body, ways.points)?;
+    first.append(&mut standing_first(alloc, body)?)?;
     let first = behind(alloc, &mut told.facts, Vec::new(alloc), first)?;
     told.known.push(Some(first))?;
     for _ in 1..ways.points.len() {

@@ -142,11 +142,12 @@ pub(crate) const COMPLETE_BUDGET: &str =
 
 pub(crate) const COMPLETE_ANSWER: &str = "\
 Reads in SHORT the specification of an object, its code with its marks, and its invariant, and prints a development over lines, with
-actions and assertions that were guessed, of which those stay that hold and are needed. What is written in SHORT is kept. If proofs of all of its conditions were found the status is 0.
-Else the status is 1, the last line is a comment:
+actions and assertions that were guessed; those stay that hold and are needed. What is written in SHORT is kept. If proofs of all of
+its conditions were found the status is 0. Else the status is 1, the last line is a comment:
   ; incomplete COUNT       of so many conditions no proof was found
 and standard error says which, by points: there something is to be asserted, or the object, a mark or the invariant is not right.
-With --certificate FILE after these words a certificate of what is printed is put into FILE, if the status is 0. A SHORT that is no short development is refused by one line, as a development is, by the codes 1 to 6.
+With --certificate FILE after these words a certificate of what is printed is put into FILE, if the status is 0.
+A SHORT that is no short development is refused by one line, as a development is, by the codes 1 to 6.
 
 Example:
   lincheck complete examples/short.lc > counter.lc
