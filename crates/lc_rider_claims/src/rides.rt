@@ -9,13 +9,12 @@ ghost use Rattle.lc_ride.specs.RidingFits.{RidersFit};
 ghost use Rattle.lc_rider.specs.RiderView.{riders_of};
 ghost use Rattle.lc_seq.specs.Branches.{arity};
 ghost use Rattle.lc_seq.specs.SpecView.{operations_of};
-ghost use Rattle.lc_term.specs.Drafts.{written_in_draft, saved_in_draft, draft_columns};
+ghost use Rattle.lc_ride.specs.Drafts.{written_in_draft, saved_in_draft, draft_columns};
 ghost use Rattle.lc_term.specs.State.{env_of, variable_count};
 
-use lc_ride::{Mark, Rides, ride_all};
+use lc_ride::{Draft, Mark, Rides, ride_all};
 use lc_rider::Rider;
 use lc_seq::SeqFault;
-use lc_term::Draft;
 use std::alloc::Global;
 
 /// Riders are done in their order, each in the state that the earlier ones left, or one of them cannot be done.
