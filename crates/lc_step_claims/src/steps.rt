@@ -12,8 +12,9 @@ ghost use Rattle.lc_term.specs.SystemColumns.{column_count};
 use lc_base::{OpId, OutOfMemory};
 use lc_machine::{Client, StepFault};
 use lc_outline::Development;
+use lc_ride::Draft;
 use lc_steps::{Step, advance, begin, start};
-use lc_term::{Draft, State};
+use lc_term::State;
 use std::alloc::Global;
 
 /// The instrumented step of a client in a call is returned, or why there is none. What is saved in the draft stays.
