@@ -24,7 +24,7 @@ pub(crate) fn start_draft(alloc: Global, accepted: &Accepted) -> Result<Draft, O
 }
 
 /// `count` clients in no call.
-pub(crate) fn idle_clients(alloc: Global, count: u32) -> Result<Vec<Client>, OutOfMemory>
+pub fn idle_clients(alloc: Global, count: u32) -> Result<Vec<Client>, OutOfMemory>
     ensures { IfOk result (λ clients. clients_of clients.items ≡ replicate count Idle) }
 {
     let mut clients = Vec::with_capacity(alloc, count as usize)?;
