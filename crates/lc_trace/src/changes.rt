@@ -58,7 +58,8 @@ pub(crate) fn changes(
 {
     let mut cells = Vec::new(alloc);
     let after = draft.state();
-    for write in draft.writes() {
+    let writes = draft.writes();
+    for write in writes {
         if let Some(cell) = take_over(after, state, *write)? {
             cells.push(cell)?;
         }
