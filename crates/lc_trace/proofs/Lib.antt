@@ -1,2 +1,4 @@
 mod Changing
 mod Writing
+mod Tracing
+mod Replaying

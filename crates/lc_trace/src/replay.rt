@@ -26,11 +26,21 @@ use lc_term::{State, Write};
 use std::alloc::Global;
 
 /// Where a run is that is gone through again: the columns, twice, and the clients.
-#[derive(Drop)]
 pub(crate) struct Replay {
-    pub(crate) draft: Draft,
-    pub(crate) columns: State,
-    pub(crate) clients: Vec<Client>,
+    draft: Draft,
+    columns: State,
+    clients: Vec<Client>,
+}
+
+// Written out, so that dropping one is one call.
+impl Drop for Replay {
+    fn drop(self) {
+        let Replay {
+            draft: _,
+            columns: _,
+            clients: _,
+        } = self;
+    }
 }
 
 /// Nothing has run yet.
