@@ -6,7 +6,7 @@ mod fault;
 mod lines;
 mod lists;
 mod replay;
-mod trace;
+mod telling;
 
 pub use fault::TraceFault;
-pub use trace::trace;
+pub use telling::trace;

@@ -339,10 +339,10 @@ did not come to its end:
   seed N linearizable COUNT client C spent ..
 With --trace, and with --seed N or without, a line for each step is printed in place of the history, a JSON array, with the entries of
 the marks that it makes and the cells that it changes:
-  [CLIENT,"call",OPERATION,[NUMBER,..],[],[CELL,..]]
+  [CLIENT,\"call\",OPERATION,[NUMBER,..],[],[CELL,..]]
   [CLIENT,POINT,EDGE,[ENTRY,..],[CELL,..]]
-  [CLIENT,"return",[NUMBER,..],[ENTRY,..],[CELL,..]]
-An ENTRY is as in the order of a history, or ["note",ENTRY]; a CELL is [COLUMN,INDEX,NUMBER].
+  [CLIENT,\"return\",[NUMBER,..],[ENTRY,..],[CELL,..]]
+An ENTRY is as in the order of a history, or [\"note\",ENTRY]; a CELL is [COLUMN,INDEX,NUMBER].
 Else it prints one line:
   refused CODE ..  DEV or CERT is refused as by `check`, or PLAN by the codes 1 to 4 and 6
 
