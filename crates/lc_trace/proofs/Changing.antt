@@ -1,9 +1,9 @@
 -- The cells that a step changes, found one write after another.
-use Rattle.std.proofs.Common.{◌≡◌, ℕ, suc, ◌<◌, ◌+◌, ◌==◌, ◌⊎◌, inl, inr, Bool, true, false, List, [], ◌∷◌, ◌++◌, ℤ, length, drop, get_or, refl, sym, ap, ◌∙◌, subst, append_assoc, arith}
+use Rattle.std.proofs.Common.{◌≡◌, ℕ, zero, suc, ◌<◌, ◌+◌, ◌==◌, ◌⊎◌, inl, inr, Bool, true, false, List, [], ◌∷◌, ◌++◌, ℤ, length, drop, get_or, refl, sym, ap, ◌∙◌, subst, append_assoc, arith}
 use Rattle.std.specs.Prelude.{if◌then◌else◌, map, Option, Some, None}
 use Rattle.std.specs.Ordering.{int_eq}
 use Rattle.std.proofs.lemmas.Bool.Decides.{Decides-int_eq}
-use Rattle.std.proofs.lemmas.List.{map-append}
+use Rattle.std.proofs.lemmas.List.{map-append, get_or_default}
 use borrow.Author.Tests.{eqb-true}
 use Rattle.lc_lemmas.proofs.Booleans.{and_parts}
 use Rattle.lc_lemmas.proofs.Lists.{drop_at_element}
@@ -14,16 +14,16 @@ use Rattle.lc_term.specs.State.{with_cell}
 use Rattle.lc_term.specs.Updates.{Write, stored_all, AreWithin}
 use Rattle.lc_term.specs.UpdateView.{write_view, writes_view}
 use Rattle.lc_term.specs.declared.update.Write as code
-use Rattle.lc_trace.specs.Changes.{Changes, IsTakenOver}
+use Rattle.lc_trace.specs.Changes.{Changes, IsTakenOver, one_more}
 
 -- writes leave in a cell what was there, or what it is does not depend on that
 left_or_not : (ws : List Write) (c : ℕ) (i : ℤ) → ((x : ℤ) → after ws c i x ≡ x) ⊎ ((x y : ℤ) → after ws c i x ≡ after ws c i y)
 left_or_not [] c i = inl (λ x. refl)
-left_or_not (w ∷ ws) c i = by (is_cell w c i)
+left_or_not (w ∷ ws) c i = by (is_cell w c i) (left_or_not ws c i)
   where
-    by : (b : Bool) → ((x : ℤ) → after ws c i (if b then w.value else x) ≡ x) ⊎ ((x y : ℤ) → after ws c i (if b then w.value else x) ≡ after ws c i (if b then w.value else y))
-    by true = inr (λ x y. refl)
-    by false = left_or_not ws c i
+    by : (b : Bool) → ((x : ℤ) → after ws c i x ≡ x) ⊎ ((x y : ℤ) → after ws c i x ≡ after ws c i y) → ((x : ℤ) → after ws c i (if b then w.value else x) ≡ x) ⊎ ((x y : ℤ) → after ws c i (if b then w.value else x) ≡ after ws c i (if b then w.value else y))
+    by true rest = inr (λ x y. refl)
+    by false rest = rest
 
 -- the cell of a write
 same_cell : (m : State) (w : Write) (c : ℕ) (i : ℤ) → is_cell w c i ≡ true → m w.column w.index ≡ m c i
@@ -54,19 +54,16 @@ same_at s w c i false e h = refl
 same_over : (s : State) (w : Write) → s w.column w.index ≡ w.value → with_cell s w.column w.index w.value ≡ s
 same_over s w h = λ p c i. (stored_is s (w ∷ []) c i ∙ same_at s w c i (is_cell w c i) refl h) p
 
--- what is left to be written, after one write more
-abbrev pub one_more : Option code.Write → List code.Write → List code.Write
-one_more None cells = cells
-one_more (Some w) cells = cells ++ w ∷ []
-
 taken_state : (m s t : State) (c : ℕ) (i : ℤ) (found : Option code.Write) → IsTakenOver m s t c i found → t ≡ with_cell s c i (m c i)
 taken_state m s t c i None h = h.1 ∙ sym (same_over s (record { column = c; index = i; value = m c i }) h.0)
 taken_state m s t c i (Some w) h = h.2
 
 -- one write is taken over
-pub over_next : (m s t : State) (ws : List code.Write) (k : ℕ) (w : code.Write) (found : Option code.Write) → k < length ws → w ≡ get_or ws k w →
-    IsTakenOver m s t w.column.0 w.index found → stored_all s (writes_view (drop k ws)) ≡ m → stored_all t (writes_view (drop (k + 1) ws)) ≡ m
-over_next m s t ws k w found lt is taken left =
+pub over_next : (m s t : State) (ws : List code.Write) (k : ℕ) (d : code.Write) (found : Option code.Write) → k < length ws →
+    IsTakenOver m s t (get_or ws k d).column.0 (get_or ws k d).index found → stored_all s (writes_view (drop k ws)) ≡ m → stored_all t (writes_view (drop (k + 1) ws)) ≡ m
+over_next m s t ws k d found lt taken left =
+    let w = get_or ws k d in
+    let is : w ≡ get_or ws k w = get_or_default ws k d w lt in
     let rest = writes_view (drop (k + 1) ws) in
     let here : stored_all s (write_view w ∷ rest) ≡ m = ap (λ l. stored_all s (writes_view l)) (sym (drop_at_element ws k w lt is)) ∙ left in
     ap (λ u. stored_all u rest) (taken_state m s t w.column.0 w.index found taken) ∙ one_over s m (write_view w) rest here
@@ -86,7 +83,7 @@ leads_next m start s t cells c i (Some w) taken leads = λ rest so.
     subst (λ l. Changes m start l) (sym view) more
 
 -- a write is to a column that there is
-pub within_at : (n : ℕ) (ws : List code.Write) (k : ℕ) (w : code.Write) → AreWithin n (writes_view ws) → k < length ws → w ≡ get_or ws k w → w.column.0 < n
-within_at n [] k w h lt is = absurd (omega arith)
-within_at n (x ∷ xs) 0 w h lt is = subst (λ (u : code.Write). u.column.0 < n) (sym is) h.0
-within_at n (x ∷ xs) (suc k) w h lt is = within_at n xs k w h.1 (omega arith) is
+pub within_at : (n : ℕ) (ws : List code.Write) (k : ℕ) (d : code.Write) → AreWithin n (writes_view ws) → k < length ws → (get_or ws k d).column.0 < n
+within_at n [] k d h lt = absurd (omega arith)
+within_at n (x ∷ xs) zero d h lt = h.0
+within_at n (x ∷ xs) (suc k) d h lt = within_at n xs k d h.1 (omega arith)

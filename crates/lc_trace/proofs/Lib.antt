@@ -1,4 +1,3 @@
 mod Changing
-mod Writing
 mod Tracing
 mod Replaying

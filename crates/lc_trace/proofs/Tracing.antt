@@ -1,5 +1,5 @@
 -- What is told of labels, one after another.
-use Rattle.std.proofs.Common.{◌≡◌, ℕ, suc, ◌<◌, ◌≤◌, ◌+◌, List, [], ◌∷◌, ◌++◌, Option, None, length, drop, get_or, replicate, refl, sym, ap, ap₂, ◌∙◌, subst, append_assoc, append-nil}
+use Rattle.std.proofs.Common.{◌≡◌, ℕ, zero, suc, ◌<◌, ◌≤◌, ◌+◌, List, [], ◌∷◌, ◌++◌, Option, None, length, drop, get_or, replicate, refl, sym, ap, ap₂, ◌∙◌, subst, append_assoc, append-nil}
 use Rattle.std.specs.Prelude.{slice_index_or}
 use Rattle.lc_lemmas.proofs.Lists.{drop_at_element, dropped_all}
 use Rattle.lc_term.specs.Updates.{Write}
@@ -23,8 +23,8 @@ abbrev pub Leads : Development → ℕ → List Label → World → (ℕ → Cal
 Leads D n labels w calls k text = (rest : List ℕ) → TellsStepsFrom D w calls (labels_of (drop k labels)) rest → TellsSteps D n (labels_of labels) (text ++ rest)
 
 none_begun : (n c : ℕ) → slice_index_or (replicate n None) c None ≡ None
-none_begun 0 c = refl
-none_begun (suc n) 0 = refl
+none_begun zero c = refl
+none_begun (suc n) zero = refl
 none_begun (suc n) (suc c) = none_begun n c
 
 pub told_first : (D : Development) (n : ℕ) (labels : List Label) (w : World) (calls : List (Option Begun)) (text : List ℕ) → w ≡ start_world D n → calls ≡ replicate n None → text ≡ [] →

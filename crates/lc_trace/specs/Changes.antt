@@ -1,5 +1,5 @@
 -- The cells that a step changes.
-use Rattle.std.specs.Prelude.{◌≡◌, ℕ, ℤ, List, [], ◌∷◌, Option, Some, None}
+use Rattle.std.specs.Prelude.{◌≡◌, ℕ, ℤ, List, [], ◌∷◌, ◌++◌, Option, Some, None}
 use Rattle.lc_term.specs.Meaning.{State}
 use Rattle.lc_term.specs.State.{with_cell}
 use Rattle.lc_term.specs.Updates.{Write}
@@ -17,3 +17,8 @@ abbrev pub IsTakenOver : (after before new : State) (c : ℕ) (i : ℤ) → Opti
 IsTakenOver after before new c i None = (before c i ≡ after c i) × (new ≡ before)
 IsTakenOver after before new c i (Some w) =
     (write_view w ≡ record { column = c; index = i; value = after c i }) × (before c i ≡ after c i → ⊥) × (new ≡ with_cell before c i (after c i))
+
+-- a cell behind others, if there is one
+abbrev pub one_more : Option code.Write → List code.Write → List code.Write
+one_more None cells = cells
+one_more (Some w) cells = cells ++ w ∷ []

@@ -3,7 +3,7 @@ ghost use Rattle.std.specs.Prelude.{◌≡◌, ◌<◌, ◌↔◌, Some, IfOk, I
 ghost use Rattle.lc_term.specs.State.{state_of, column_count, with_cell};
 ghost use Rattle.lc_term.specs.UpdateView.{writes_view};
 ghost use Rattle.lc_ride.specs.Drafts.{written_in_draft, saved_in_draft, draft_columns};
-ghost use Rattle.lc_trace.specs.Changes.{Changes, IsTakenOver};
+ghost use Rattle.lc_trace.specs.Changes.{Changes, IsTakenOver, one_more};
 
 use crate::fault::TraceFault;
 use lc_ride::Draft;
@@ -43,6 +43,16 @@ fn take_over(after: &State, state: &mut State, cell: Write) -> Result<Option<Wri
     Ok(Some(write))
 }
 
+// Appends a cell, if there is one.
+fn push_found(cells: &mut Vec<Write>, found: Option<Write>) -> Result<(), TraceFault>
+    ensures { OnOk result (cells.new.items ≡ one_more found cells.old.items) }
+{
+    if let Some(cell) = found {
+        cells.push(cell)?;
+    }
+    Ok(())
+}
+
 /// The cells in which what is written to a draft differs from what is saved in it, in the order in which they were written first. The
 /// state, which is as it is saved, becomes what is written.
 pub(crate) fn changes(
@@ -60,9 +70,8 @@ pub(crate) fn changes(
     let after = draft.state();
     let writes = draft.writes();
     for write in writes {
-        if let Some(cell) = take_over(after, state, *write)? {
-            cells.push(cell)?;
-        }
+        let found = take_over(after, state, *write)?;
+        push_found(&mut cells, found)?;
     }
     Ok(cells)
 }

@@ -9,9 +9,9 @@ ghost use Rattle.lc_run.specs.LabelView.{label_of};
 ghost use Rattle.lc_run.specs.Ordering.{call_in, call_of, calls_in};
 ghost use Rattle.lc_trace.specs.Lines.{listed, numbers_text, event_text, choice_text, entry_text, mark_text, cell_text, step_text};
 
-use crate::lists::{operation_name, point_name, push_numbers};
+use crate::lists::{column_name, operation_name, point_name, push_numbers};
 use lc_base::{OpId, OutOfMemory};
-use lc_outline::{Development, column_name, edge_word};
+use lc_outline::{Development, edge_word};
 use lc_ride::Mark;
 use lc_run::{Begun, Label, last_call};
 use lc_seq::Pick;
@@ -76,7 +76,7 @@ fn push_choice(alloc: Global, text: &mut Vec<u8>, choice: &Pick) -> Result<(), O
 
 // A call, as it was begun; one without numbers if none was.
 fn begun_call<'a>(call: Option<Begun<'a>>) -> Begun<'a>
-    ensures { call_of result ≡ call_in call }
+    ensures { call_of result.exit ≡ call_in call.entry }
 {
     match call {
         Some(begun) => begun,
@@ -172,7 +172,7 @@ fn push_cell(
 ) -> Result<(), OutOfMemory>
     ensures { OnOk result (text.new.items ≡ text.old.items ++ cell_text (development_view development.now) (write_view cell)) }
 {
-    let name = column_name(development.parts(), cell.column);
+    let name = column_name(development, cell.column);
     let index = cell.index;
     let value = cell.value;
     let words = format!(in alloc; "[\"{name}\",{index},{value}]")?;

@@ -1,10 +1,11 @@
 //! Numbers and names, as they are written.
 ghost use Rattle.std.specs.Prelude.{◌≡◌, ◌++◌, codes, flat_map, OnOk};
 ghost use Rattle.std.specs.Fmt.{signed_decimal};
+ghost use Rattle.lc_outline.specs.ColumnNames.{column_names, name_at};
 ghost use Rattle.lc_outline.specs.DevelopmentView.{development_view};
 ghost use Rattle.lc_trace.specs.Lines.{numbers_text, operation_name, point_name};
 
-use lc_base::{OpId, OutOfMemory, PointId};
+use lc_base::{ColId, OpId, OutOfMemory, PointId};
 use lc_outline::Development;
 use std::alloc::Global;
 
@@ -60,6 +61,13 @@ pub(crate) fn operation_name(development: &Development, operation: OpId) -> &str
     } else {
         ""
     }
+}
+
+/// The name of a column; an empty text if there is none.
+pub(crate) fn column_name(development: &Development, column: ColId) -> &str
+    ensures { result.now ≡ name_at (column_names (development_view development.now)) column.0 }
+{
+    lc_outline::column_name(development.parts(), column)
 }
 
 /// The name of a point; an empty text if there is none.

@@ -168,9 +168,7 @@ pub trace_is : (D : Development) (n : ℕ) (ran : Ran) (count : ℕ) (ends : Lis
 trace_is D n ran count ends first heads lines text tells counted ended is_first is_heads is_text = (
   lines,
   tells,
-  is_text
-  ∙ (ap (λ h. h ++ lines) (is_heads ∙ ap₂ (λ (h : List ℕ) es. h ++ flat_map end_text es) (is_first ∙ ap (λ k. line_of (codes "linearizable") (k ∷ [])) counted) ended)
-  ∙ append_assoc (line_of (codes "linearizable") (length ran.log.order.items ∷ [])) (flat_map end_text ran.ends.items) lines),
+  is_text ∙ ap (λ h. h ++ lines) (is_heads ∙ ap₂ (λ (h : List ℕ) es. h ++ flat_map end_text es) (is_first ∙ ap (λ k. line_of (codes "linearizable") (k ∷ [])) counted) ended),
 )
 
 -- and it is that of its labels
