@@ -18,11 +18,15 @@ use Rattle.lc_trace.specs.Changes.{Changes}
 use Rattle.lc_trace.specs.Lines.{step_text}
 use Rattle.lc_trace.specs.Traces.{TellsStepsFrom, TellsSteps}
 
+-- no call was begun
+abbrev no_begun : Option Begun
+no_begun = None
+
 -- what is told from a world on is the rest of the trace
 abbrev pub Leads : Development → ℕ → List Label → World → (ℕ → Call) → ℕ → List ℕ → Type 0
 Leads D n labels w calls k text = (rest : List ℕ) → TellsStepsFrom D w calls (labels_of (drop k labels)) rest → TellsSteps D n (labels_of labels) (text ++ rest)
 
-none_begun : (n c : ℕ) → slice_index_or (replicate n None) c None ≡ None
+none_begun : (n c : ℕ) → slice_index_or (replicate n no_begun) c no_begun ≡ no_begun
 none_begun zero c = refl
 none_begun (suc n) zero = refl
 none_begun (suc n) (suc c) = none_begun n c

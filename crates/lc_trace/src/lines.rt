@@ -76,7 +76,7 @@ fn push_choice(alloc: Global, text: &mut Vec<u8>, choice: &Pick) -> Result<(), O
 
 // A call, as it was begun; one without numbers if none was.
 fn begun_call<'a>(call: Option<Begun<'a>>) -> Begun<'a>
-    ensures { call_of result.exit ≡ call_in call.entry }
+    ensures { call_of result ≡ call_in call.entry }
 {
     match call {
         Some(begun) => begun,

@@ -1,5 +1,5 @@
 //! The trace of a run.
-ghost use Rattle.std.specs.Prelude.{◌≡◌, IfOk, OnOk};
+ghost use Rattle.std.specs.Prelude.{◌≡◌, IfOk};
 ghost use Rattle.lc_outline.specs.DevelopmentView.{development_view};
 ghost use Rattle.lc_run.specs.LabelView.{label_of, labels_of};
 ghost use Rattle.lc_run.specs.Ordering.{calls_in};
@@ -15,10 +15,14 @@ use lc_run::{Begun, Label, no_calls};
 use lc_steps::What;
 use std::alloc::Global;
 
-// The call that a label begins is the last of its client.
-fn note_call<'a>(calls: &mut [Option<Begun<'a>>], label: &'a Label) -> Result<(), TraceFault>
-    ensures { OnOk result (calls_in calls.new ≡ called_last (calls_in calls.old) label.now.client (what_of label.now.what)) }
+// The calls that clients began last, after this label.
+fn with_call<'a>(
+    calls: Vec<Option<Begun<'a>>>,
+    label: &'a Label,
+) -> Result<Vec<Option<Begun<'a>>>, TraceFault>
+    ensures { IfOk result (λ all. calls_in all.items ≡ called_last (calls_in calls.entry.items) label.now.client (what_of label.now.what)) }
 {
+    let mut calls = calls;
     if let What::Invoked { operation, numbers } = &label.what {
         let place = label.client as usize;
         if place >= calls.len() {
@@ -29,7 +33,7 @@ fn note_call<'a>(calls: &mut [Option<Begun<'a>>], label: &'a Label) -> Result<()
             numbers,
         });
     }
-    Ok(())
+    Ok(calls)
 }
 
 /// The trace of labels of a run of a development by this many clients: a line for each step, with the cells that it changes. Each step
@@ -48,7 +52,7 @@ pub fn trace(
     for label in labels {
         let cells = take_again(alloc, development, &mut replay, label)?;
         push_step(alloc, &mut text, development, &calls, label, &cells)?;
-        note_call(&mut calls, label)?;
+        calls = with_call(calls, label)?;
     }
     Ok(text)
 }

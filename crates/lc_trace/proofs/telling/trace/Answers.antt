@@ -2,8 +2,6 @@ use Rattle.std.proofs.Common.{◌≡◌, ◌<◌, ◌≤◌, ◌++◌, List, len
 use Rattle.lc_outline.specs.DevelopmentView.{development_view}
 use Rattle.lc_run.specs.LabelView.{label_of}
 use Rattle.lc_run.specs.Ordering.{calls_in}
-use Rattle.lc_sound.specs.Order.{called_last}
-use Rattle.lc_steps.specs.StepView.{what_of}
 use Rattle.lc_term.specs.UpdateView.{writes_view}
 use Rattle.lc_trace.specs.Lines.{step_text}
 use Rattle.lc_trace.specs.Replays.{world_of}
@@ -25,11 +23,10 @@ loop-label-preserved c =
     let cells = writes_view c.in_ok-cells.cells.items in
     let lt : c.loop-label.label-index < length c.args.labels.now = search rules in
     let more : c.push_step.new.text.items ≡ c.loop-label.text.items ++ step_text D calls (label_of l) cells = search rules in
-    let noted : calls_in c.note_call.new.calls ≡ called_last calls l.client (what_of l.what) = search rules in
     record {
       ready = c.in_ok-cells.ensures.ready;
-      leads = told_next D c.args.clients c.args.labels.now c.loop-label.label-index l (world_of c.loop-label.replay) (world_of c.take_again.new.replay) calls (calls_in c.note_call.new.calls) cells
-          c.loop-label.text.items c.push_step.new.text.items lt c.label-item.is c.in_ok-cells.ensures.step c.in_ok-cells.ensures.changed noted more c.loop-label.invariant.leads;
+      leads = told_next D c.args.clients c.args.labels.now c.loop-label.label-index l (world_of c.loop-label.replay) (world_of c.take_again.new.replay) calls (calls_in c.in_ok-calls-2.calls.items) cells
+          c.loop-label.text.items c.push_step.new.text.items lt c.label-item.is c.in_ok-cells.ensures.step c.in_ok-cells.ensures.changed c.in_ok-calls-2.ensures more c.loop-label.invariant.leads;
     }
 
 pub returns : goal.returns
