@@ -19,11 +19,7 @@ fn push_number(alloc: Global, text: &mut Vec<u8>, number: i64) -> Result<(), Out
 }
 
 // Appends numbers, each behind a comma.
-fn push_more_numbers(
-    alloc: Global,
-    text: &mut Vec<u8>,
-    numbers: &[i64],
-) -> Result<(), OutOfMemory>
+fn push_more_numbers(alloc: Global, text: &mut Vec<u8>, numbers: &[i64]) -> Result<(), OutOfMemory>
     ensures { OnOk result (text.new.items ≡ text.old.items ++ flat_map (λ n. codes "," ++ signed_decimal n) numbers.now) }
 {
     for number in numbers {

@@ -74,7 +74,7 @@ fn next_step(
     requires placed { are_placed (development_view development.now).object (clients_of clients.now) ≡ true }
     ensures step { let w = world_in draft.old clients.now in
         IfOk result (λ step. Instrumented (development_view development.now) w label.now.client (what_of step.what) (marks_of step.marks.items)
-            (world_with w (written_in_draft draft.new) label.now.client (client_of step.client))) }
+        (world_with w (written_in_draft draft.new) label.now.client (client_of step.client))) }
     ensures placed { IfOk result (λ step. is_placed (development_view development.now).object (client_of step.client) ≡ true) }
     ensures saved { saved_in_draft draft.new ≡ saved_in_draft draft.old }
     ensures columns { draft_columns draft.new ≡ draft_columns draft.old }
@@ -110,7 +110,7 @@ fn same_step(
     requires placed { are_placed (development_view development.now).object (clients_of clients.now) ≡ true }
     ensures step { let w = world_in draft.old clients.now in
         IfOk result (λ stand. Instrumented (development_view development.now) w label.now.client (what_of label.now.what) (marks_of label.now.marks.items)
-            (world_with w (written_in_draft draft.new) label.now.client (client_of stand))) }
+        (world_with w (written_in_draft draft.new) label.now.client (client_of stand))) }
     ensures placed { IfOk result (λ stand. is_placed (development_view development.now).object (client_of stand) ≡ true) }
     ensures saved { saved_in_draft draft.new ≡ saved_in_draft draft.old }
     ensures columns { draft_columns draft.new ≡ draft_columns draft.old }
