@@ -1,8 +1,8 @@
 -- A step that is taken again.
-use Rattle.std.proofs.Common.{◌≡◌, ℕ, List, sym, ap, set, ◌∙◌}
+use Rattle.std.proofs.Common.{◌≡◌, ℕ, List, sym, set}
 use Rattle.std.proofs.lemmas.List.{map-set}
 use Rattle.lc_term.specs.Meaning.{State}
-use Rattle.lc_machine.specs.View.{client_of, clients_of}
+use Rattle.lc_machine.specs.View.{client_of}
 use Rattle.lc_machine.specs.World.{World}
 use Rattle.lc_machine.specs.declared.client.Client.{Client}
 use Rattle.lc_ride.specs.Drafts.{saved_in_draft}

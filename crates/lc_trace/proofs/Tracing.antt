@@ -1,5 +1,5 @@
 -- What is told of labels, one after another.
-use Rattle.std.proofs.Common.{◌≡◌, ℕ, zero, suc, ◌<◌, ◌≤◌, ◌+◌, List, [], ◌∷◌, ◌++◌, Option, None, length, drop, get_or, replicate, refl, sym, ap, ap₂, ◌∙◌, subst, append_assoc, append-nil}
+use Rattle.std.proofs.Common.{◌≡◌, ℕ, zero, suc, ◌<◌, ◌≤◌, ◌+◌, List, [], ◌∷◌, ◌++◌, Option, None, length, drop, get_or, replicate, refl, sym, ap, ◌∙◌, subst, append_assoc, append-nil}
 use Rattle.std.specs.Prelude.{slice_index_or}
 use Rattle.lc_lemmas.proofs.Lists.{drop_at_element, dropped_all}
 use Rattle.lc_term.specs.Updates.{Write}

@@ -1,6 +1,6 @@
 //! The cells that a step changes.
-ghost use Rattle.std.specs.Prelude.{◌≡◌, ◌<◌, ◌↔◌, Some, IfOk, IfSome, IsTrue, OnOk};
-ghost use Rattle.lc_term.specs.State.{state_of, column_count, with_cell};
+ghost use Rattle.std.specs.Prelude.{◌≡◌, ◌<◌, ◌↔◌, Some, IfOk, IsTrue, OnOk};
+ghost use Rattle.lc_term.specs.State.{state_of, column_count};
 ghost use Rattle.lc_term.specs.UpdateView.{writes_view};
 ghost use Rattle.lc_ride.specs.Drafts.{written_in_draft, saved_in_draft, draft_columns};
 ghost use Rattle.lc_trace.specs.Changes.{Changes, IsTakenOver, one_more};

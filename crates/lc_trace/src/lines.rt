@@ -1,5 +1,5 @@
 //! The line of a step.
-ghost use Rattle.std.specs.Prelude.{◌≡◌, ◌++◌, codes, flat_map, OnOk, IfOk};
+ghost use Rattle.std.specs.Prelude.{◌≡◌, ◌++◌, codes, flat_map, OnOk};
 ghost use Rattle.lc_term.specs.UpdateView.{write_view, writes_view};
 ghost use Rattle.lc_seq.specs.SpecView.{choice_of};
 ghost use Rattle.lc_outline.specs.DevelopmentView.{development_view};

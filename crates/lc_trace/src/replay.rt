@@ -1,5 +1,5 @@
 //! A run that is gone through again, label by label.
-ghost use Rattle.std.specs.Prelude.{◌≡◌, true, IfOk, IfSome, OnOk};
+ghost use Rattle.std.specs.Prelude.{◌≡◌, true, IfOk, OnOk};
 ghost use Rattle.lc_term.specs.SystemColumns.{column_count};
 ghost use Rattle.lc_term.specs.UpdateView.{writes_view};
 ghost use Rattle.lc_machine.specs.Placed.{is_placed, are_placed};

@@ -1,7 +1,7 @@
 //! The trace of a run.
 ghost use Rattle.std.specs.Prelude.{◌≡◌, IfOk};
 ghost use Rattle.lc_outline.specs.DevelopmentView.{development_view};
-ghost use Rattle.lc_run.specs.LabelView.{label_of, labels_of};
+ghost use Rattle.lc_run.specs.LabelView.{labels_of};
 ghost use Rattle.lc_run.specs.Ordering.{calls_in};
 ghost use Rattle.lc_sound.specs.Order.{called_last};
 ghost use Rattle.lc_steps.specs.StepView.{what_of};

@@ -1,8 +1,8 @@
-use Rattle.std.proofs.Common.{◌≡◌, ◌<◌, ◌≤◌, ◌+◌, ◌++◌, List, [], length, drop, get_or, sym, ap, subst, ◌∙◌, append-nil, arith, rules}
-use Rattle.std.specs.Prelude.{ℤ, pos}
+use Rattle.std.proofs.Common.{◌≡◌, ◌<◌, ◌≤◌, ◌+◌, ◌++◌, List, [], length, get_or, sym, ap, subst, ◌∙◌, append-nil, arith, rules}
+use Rattle.std.specs.Prelude.{pos}
 use Rattle.lc_lemmas.proofs.Lists.{dropped_all}
 use Rattle.lc_term.specs.Meaning.{State}
-use Rattle.lc_term.specs.State.{state_of, column_count}
+use Rattle.lc_term.specs.State.{state_of}
 use Rattle.lc_term.specs.Updates as U
 use Rattle.lc_term.specs.Updates.{stored_all}
 use Rattle.lc_term.specs.UpdateView.{writes_view}

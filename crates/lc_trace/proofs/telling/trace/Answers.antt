@@ -1,4 +1,4 @@
-use Rattle.std.proofs.Common.{◌≡◌, ◌<◌, ◌≤◌, ◌++◌, List, length, sym, ap, subst, ◌∙◌, arith, rules}
+use Rattle.std.proofs.Common.{◌≡◌, ◌<◌, ◌≤◌, ◌++◌, length, arith, rules}
 use Rattle.lc_outline.specs.DevelopmentView.{development_view}
 use Rattle.lc_run.specs.LabelView.{label_of}
 use Rattle.lc_run.specs.Ordering.{calls_in}
