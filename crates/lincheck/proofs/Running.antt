@@ -182,6 +182,12 @@ trace_told D P ran text is (lines, tells, same) = (
   same ∙ ap (λ k. trace_text k ran.ends.items lines) (sym (length-map ran.log.order.items entry_view) ∙ ap length is.entries),
 )
 
+-- if there is one
+pub trace_answered : {X : Type 0} (D E : Development) (P : S.Plan) (ran : Ran) (r : Result (Vec ℕ Global) X) → E ≡ D → IsRunOf D P.clients P.phases ran → IfOk r (λ text. TracesRan E P.clients ran text.items)
+    → IfOk r (λ text. TellsTrace D P text.items)
+trace_answered D E P ran (Ok text) same is told = trace_told D P ran text.items is (subst (λ (F : Development). TracesRan F P.clients ran text.items) same told)
+trace_answered D E P ran (Err e) same is told = tt
+
 -- ---- files that cannot be opened
 
 -- none is opened after a development that is refused
