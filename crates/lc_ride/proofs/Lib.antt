@@ -4,3 +4,4 @@ mod Deeding
 mod Wherever
 mod Agreeing
 mod InOrder
+mod Writing

@@ -9,7 +9,7 @@ ghost use Rattle.lc_term.specs.State.{env_of, variable_count};
 ghost use Rattle.lc_term.specs.UpdateView.{update_of, writes_view};
 ghost use Rattle.lc_term.specs.Updates.{UpdatesFit, stored_all, write_of};
 ghost use Rattle.lc_action.specs.ActionView.{first_of};
-ghost use Rattle.lc_term.specs.Drafts.{written_in_draft, saved_in_draft, draft_columns};
+ghost use Rattle.lc_ride.specs.Drafts.{written_in_draft, saved_in_draft, draft_columns};
 ghost use Rattle.lc_seq.specs.Specification.{update_is_resolved};
 ghost use Rattle.lc_seq.specs.SpecView.{operations_of, choice_of};
 ghost use Rattle.lc_seq.specs.Branches.{arity};
@@ -18,12 +18,13 @@ ghost use Rattle.lc_ride.specs.Riding.{help};
 ghost use Rattle.lc_ride.specs.RidingFits.{HelpFits};
 ghost use Rattle.lc_ride.specs.RideView.{AreThere, IsRidden};
 
+use crate::draft::Draft;
 use crate::marks::{Mark, mark_writes, note_writes, stands};
 use crate::settling::{Call, taken};
 use lc_action::SystemColumns;
 use lc_base::OpId;
 use lc_seq::{Operation, Outcome, Pick, SeqFault};
-use lc_term::{Draft, Env, EvalFault, Update, Write, eval_term};
+use lc_term::{Env, EvalFault, Update, Write, eval_term};
 use std::alloc::Global;
 
 /// A client's call takes effect under a choice, if it is not settled and a branch is taken.

@@ -4,7 +4,7 @@ ghost use Rattle.std.specs.List.{list_all};
 ghost use Rattle.lc_base.specs.Limits.{argument_limit};
 ghost use Rattle.lc_term.specs.State.{env_of, variable_count};
 ghost use Rattle.lc_action.specs.ActionView.{first_of};
-ghost use Rattle.lc_term.specs.Drafts.{written_in_draft, saved_in_draft, draft_columns};
+ghost use Rattle.lc_ride.specs.Drafts.{written_in_draft, saved_in_draft, draft_columns};
 ghost use Rattle.lc_seq.specs.SpecView.{operations_of};
 ghost use Rattle.lc_seq.specs.Branches.{arity};
 ghost use Rattle.lc_term.specs.View.{term_of};
@@ -17,13 +17,14 @@ ghost use Rattle.lc_ride.specs.RideView.{AreThere, IsRidden, deed_is_evaluable, 
 
 use crate::choosing::pick_of;
 use crate::deeds::{assign, help, note, settle};
+use crate::draft::Draft;
 use crate::marks::Mark;
 use crate::settling::Call;
 use lc_action::SystemColumns;
 use lc_base::OpId;
 use lc_rider::{Choosing, Rider};
 use lc_seq::{Operation, SeqFault};
-use lc_term::{Draft, Env, Term, eval, eval_term};
+use lc_term::{Env, Term, eval, eval_term};
 use std::alloc::Global;
 
 /// In whose call riders act: the specification's operations, the system columns, the client, the operation whose code it

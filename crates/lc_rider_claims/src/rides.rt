@@ -9,13 +9,15 @@ ghost use Rattle.lc_ride.specs.RidingFits.{RidersFit};
 ghost use Rattle.lc_rider.specs.RiderView.{riders_of};
 ghost use Rattle.lc_seq.specs.Branches.{arity};
 ghost use Rattle.lc_seq.specs.SpecView.{operations_of};
-ghost use Rattle.lc_term.specs.Drafts.{written_in_draft, saved_in_draft, draft_columns};
+ghost use Rattle.lc_ride.specs.Drafts.{written_in_draft, saved_in_draft, draft_columns};
 ghost use Rattle.lc_term.specs.State.{env_of, variable_count};
+ghost use Rattle.lc_term.specs.UpdateView.{writes_view};
+ghost use Rattle.lc_term.specs.Updates.{stored_all, AreWithin};
 
-use lc_ride::{Mark, Rides, ride_all};
+use lc_ride::{Draft, Mark, Rides, ride_all};
 use lc_rider::Rider;
 use lc_seq::SeqFault;
-use lc_term::Draft;
+use lc_term::Write;
 use std::alloc::Global;
 
 /// Riders are done in their order, each in the state that the earlier ones left, or one of them cannot be done.
@@ -40,4 +42,12 @@ pub fn riding(
     ensures columns { draft_columns draft.new ≡ draft_columns draft.old }
 {
     ride_all(alloc, rides, draft, riders, marks)
+}
+
+/// What was written to a draft since it was saved makes of the columns that are saved those that are written.
+pub fn listing_writes(draft: &Draft) -> &[Write]
+    ensures written { written_in_draft draft.now ≡ stored_all (saved_in_draft draft.now) (writes_view result.now) }
+    ensures within { AreWithin (draft_columns draft.now) (writes_view result.now) }
+{
+    draft.writes()
 }

@@ -9,7 +9,7 @@ use Rattle.std.proofs.sync.ledger.Share.TheSendSync as Share
 use Rattle.std.specs.declared.sync.ledger.Ledger.{Ghosts}
 use Rattle.lc_outline.proofs.Crossing.{crossing, Development-send, Development-sync}
 use Rattle.lc_check.specs.contracts.verdict.Accepted as Accepted
-use Rattle.lc_term.specs.contracts.draft.Draft as Draft
+use Rattle.lc_ride.specs.contracts.draft.Draft as Draft
 use Rattle.lc_machine.specs.contracts.client.Client as Client
 use Rattle.lc_run.specs.contracts.label.Label as RunLabel
 use Rattle.lc_run.specs.contracts.held.Shared as Shared

@@ -4,8 +4,8 @@ use Rattle.std.specs.Prelude.{slice_get}
 use Rattle.std.proofs.Math.Logic.{∥∥₁_map}
 use Rattle.std.proofs.lemmas.List.{map-append, map-set, length-map}
 use Rattle.std.proofs.lemmas.Option.{slice_get_within}
-use Rattle.lc_term.specs.Drafts.{written_in_draft, saved_in_draft}
-use Rattle.lc_term.specs.declared.draft.Draft.{Draft}
+use Rattle.lc_ride.specs.Drafts.{written_in_draft, saved_in_draft}
+use Rattle.lc_ride.specs.declared.draft.Draft.{Draft}
 use Rattle.lc_machine.specs.Step.{Event}
 use Rattle.lc_machine.specs.View.{client_of, clients_of}
 use Rattle.lc_machine.specs.World as W

@@ -1,7 +1,7 @@
 -- What the lock of a runner holds, and what its seats have.
 use Rattle.std.specs.Prelude.{ℕ, List}
 use Rattle.lc_machine.specs.declared.client.Client.{Client}
-use Rattle.lc_term.specs.declared.draft.Draft.{Draft}
+use Rattle.lc_ride.specs.declared.draft.Draft.{Draft}
 use Rattle.lc_check.specs.VerdictView.{development_in}
 use Rattle.lc_check.specs.declared.verdict.Accepted.{Accepted}
 use Rattle.lc_sound.specs.Instrumented.{IsRun}

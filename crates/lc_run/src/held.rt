@@ -1,7 +1,7 @@
 //! What the lock of a runner holds, and the seats of its clients. Only the calls of this module change them.
 ghost use Rattle.std.specs.Prelude.{◌≡◌, ◌+◌, ◌<◌, true, length};
 ghost use Rattle.lc_base.specs.Limits.{seat_limit};
-ghost use Rattle.lc_term.specs.Drafts.{draft_columns};
+ghost use Rattle.lc_ride.specs.Drafts.{draft_columns};
 ghost use Rattle.lc_term.specs.SystemColumns.{column_count};
 ghost use Rattle.lc_machine.specs.Placed.{are_placed};
 ghost use Rattle.lc_machine.specs.View.{clients_of};
@@ -17,9 +17,9 @@ use lc_base::{OpId, SEAT_LIMIT};
 use lc_check::Accepted;
 use lc_machine::Client;
 use lc_outline::Development;
+use lc_ride::Draft;
 use lc_sound::laws::runs_stand_over;
 use lc_steps::Step;
-use lc_term::Draft;
 use std::alloc::Global;
 use std::sync::Arc;
 use std::sync::ledger::{Blank, Book, Ledger, Share};
@@ -94,7 +94,7 @@ impl<J: Ledger> Shared<J> {
     ghost use Rattle.std.specs.Prelude.{◌≡◌, ◌<◌, ◌⊎◌, ◌↔◌, ℕ, [], true, false, OnOk, OnErr, IfOk, IfErr, IfSome, IsErrOf, slice_get, vec_len};
     ghost use Rattle.std.specs.Arc.{arc_value};
     ghost use Rattle.lc_base.specs.Limits.{seat_limit};
-    ghost use Rattle.lc_term.specs.Drafts.{written_in_draft};
+    ghost use Rattle.lc_ride.specs.Drafts.{written_in_draft};
     ghost use Rattle.lc_machine.specs.Answered.{IsInCall};
     ghost use Rattle.lc_machine.specs.Placed.{is_placed};
     ghost use Rattle.lc_machine.specs.Step.{Invoked};

@@ -2,7 +2,7 @@
 //! justified.
 ghost use Rattle.std.specs.Prelude.{◌≡◌, ◌↔◌, ◌<◌, Some, true, IsTrue, slice_get, IfOk, IfErr};
 ghost use Rattle.lc_run.specs.Limits.{label_limit};
-ghost use Rattle.lc_term.specs.Drafts.{written_in_draft, saved_in_draft, draft_columns};
+ghost use Rattle.lc_ride.specs.Drafts.{written_in_draft, saved_in_draft, draft_columns};
 ghost use Rattle.lc_term.specs.SystemColumns.{column_count};
 ghost use Rattle.lc_machine.specs.Answered.{IsInCall};
 ghost use Rattle.lc_machine.specs.Placed.{is_placed, are_placed};
@@ -26,8 +26,8 @@ use lc_base::OpId;
 use lc_check::Accepted;
 use lc_machine::{Client, StepFault};
 use lc_outline::Development;
+use lc_ride::Draft;
 use lc_steps::{Step, advance, begin, body_of, client_at};
-use lc_term::Draft;
 use std::alloc::Global;
 
 // A fault of a step, as one of a run.

@@ -21,4 +21,7 @@ pub use finishing::{RunLog, Unfinished, Why};
 pub use held::{Seat, Shared};
 pub use label::Label;
 pub use limits::LABEL_LIMIT;
+pub use ordering::{Begun, last_call, no_calls};
 pub use runner::{Called, Progress, Runner};
+pub use sameness::is_same_label;
+pub use starting::idle_clients;

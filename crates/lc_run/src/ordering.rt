@@ -20,9 +20,9 @@ use std::alloc::Global;
 
 /// A call, as it was begun.
 #[derive(Clone, Copy)]
-struct Begun<'a> {
-    operation: OpId,
-    numbers: &'a [i64],
+pub struct Begun<'a> {
+    pub operation: OpId,
+    pub numbers: &'a [i64],
 }
 
 /// What happens in a run.
@@ -45,8 +45,8 @@ enum Happening<'a> {
     },
 }
 
-// No calls, for `clients` clients.
-fn no_calls<'a>(alloc: Global, clients: u32) -> Result<Vec<Option<Begun<'a>>>, OutOfMemory>
+/// No calls, for `clients` clients.
+pub fn no_calls<'a>(alloc: Global, clients: u32) -> Result<Vec<Option<Begun<'a>>>, OutOfMemory>
     ensures { IfOk result (λ calls. calls.items ≡ replicate clients None) }
 {
     let mut calls = Vec::with_capacity(alloc, clients as usize)?;
@@ -56,8 +56,8 @@ fn no_calls<'a>(alloc: Global, clients: u32) -> Result<Vec<Option<Begun<'a>>>, O
     Ok(calls)
 }
 
-// The call that a client began last, if it began one.
-fn last_call<'a>(calls: &[Option<Begun<'a>>], client: u64) -> Option<Begun<'a>>
+/// The call that a client began last, if it began one.
+pub fn last_call<'a>(calls: &[Option<Begun<'a>>], client: u64) -> Option<Begun<'a>>
     ensures { call_in result ≡ calls_in calls.now client }
 {
     match calls.get(client as usize) {

@@ -18,6 +18,12 @@ use std::sync::ledger::{Blank, Ledger};
 use std::sync::{Arc, Mutex, Wait};
 use std::thread::yield_now;
 
+/// How many labels a client has made before it gives way to others for a moment alone.
+const EARLY_LABELS: usize = 3_000;
+
+/// How often a thread gives way in the time in which one that waits for a lock, and sleeps, is woken.
+const WAKING_TURNS: u32 = 64;
+
 /// What a step of a call came to.
 #[derive(Drop)]
 pub enum Progress {
@@ -81,6 +87,18 @@ fn said_last(labels: &[Label], room: Vec<i64>) -> Progress
     match labels.last() {
         None => Progress::Running,
         Some(label) => said(&label.what, room),
+    }
+}
+
+// Gives way to others: after few labels until one that waits for the lock has it, so that calls overlap.
+fn give_way(labels: usize) {
+    let times = if labels < EARLY_LABELS {
+        WAKING_TURNS
+    } else {
+        1
+    };
+    for _ in 0..times {
+        yield_now();
     }
 }
 
@@ -201,7 +219,7 @@ impl<J: Ledger> Runner<J> {
             if let Progress::Returned(reply) = self.step(rt, seat)? {
                 return Ok(Called::Returned(reply));
             }
-            yield_now();
+            give_way(seat.labels().len());
         }
         Ok(Called::TurnsSpent)
     }

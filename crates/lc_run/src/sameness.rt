@@ -92,7 +92,8 @@ fn are_same_marks(left: &[Mark], right: &[Mark]) -> bool
     rest.is_empty()
 }
 
-fn is_same_label(left: &Label, right: &Label) -> bool
+/// Whether two labels are the same.
+pub fn is_same_label(left: &Label, right: &Label) -> bool
     ensures { IsTrue result ↔ (label_of left.now ≡ label_of right.now) }
 {
     left.client == right.client

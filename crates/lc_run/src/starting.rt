@@ -1,6 +1,6 @@
 //! What is under the lock of a runner at first.
 ghost use Rattle.std.specs.Prelude.{◌≡◌, IfOk, replicate};
-ghost use Rattle.lc_term.specs.Drafts.{saved_in_draft, draft_columns};
+ghost use Rattle.lc_ride.specs.Drafts.{saved_in_draft, draft_columns};
 ghost use Rattle.lc_term.specs.SystemColumns.{column_count};
 ghost use Rattle.lc_machine.specs.View.{clients_of};
 ghost use Rattle.lc_machine.specs.World.{Idle};
@@ -10,8 +10,8 @@ ghost use Rattle.lc_check.specs.VerdictView.{development_in};
 use lc_base::OutOfMemory;
 use lc_check::Accepted;
 use lc_machine::Client;
+use lc_ride::Draft;
 use lc_steps::start;
-use lc_term::Draft;
 use std::alloc::Global;
 
 /// The columns of a development in which nothing is written, as a draft.
@@ -24,7 +24,7 @@ pub(crate) fn start_draft(alloc: Global, accepted: &Accepted) -> Result<Draft, O
 }
 
 /// `count` clients in no call.
-pub(crate) fn idle_clients(alloc: Global, count: u32) -> Result<Vec<Client>, OutOfMemory>
+pub fn idle_clients(alloc: Global, count: u32) -> Result<Vec<Client>, OutOfMemory>
     ensures { IfOk result (λ clients. clients_of clients.items ≡ replicate count Idle) }
 {
     let mut clients = Vec::with_capacity(alloc, count as usize)?;

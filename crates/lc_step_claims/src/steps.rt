@@ -5,15 +5,16 @@ ghost use Rattle.lc_machine.specs.View.{client_of, clients_of};
 ghost use Rattle.lc_outline.specs.Development.{first_system, start_columns};
 ghost use Rattle.lc_outline.specs.DevelopmentView.{development_view};
 ghost use Rattle.lc_steps.specs.StepView.{world_in, IsAdvanced, IsBegun};
-ghost use Rattle.lc_term.specs.Drafts.{written_in_draft, saved_in_draft, draft_columns};
+ghost use Rattle.lc_ride.specs.Drafts.{written_in_draft, saved_in_draft, draft_columns};
 ghost use Rattle.lc_term.specs.State.{state_of, column_count as columns_of};
 ghost use Rattle.lc_term.specs.SystemColumns.{column_count};
 
 use lc_base::{OpId, OutOfMemory};
 use lc_machine::{Client, StepFault};
 use lc_outline::Development;
+use lc_ride::Draft;
 use lc_steps::{Step, advance, begin, start};
-use lc_term::{Draft, State};
+use lc_term::State;
 use std::alloc::Global;
 
 /// The instrumented step of a client in a call is returned, or why there is none. What is saved in the draft stays.

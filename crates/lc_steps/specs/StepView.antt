@@ -1,9 +1,9 @@
 -- What is returned if a client takes an instrumented step, reported before it is kept.
 use Rattle.std.specs.Prelude.{◌≡◌, ℕ, ◌≤◌, List, ℤ, Option, Some, None, Result, Ok, Err, length, slice_get}
 use Rattle.lc_base.specs.Limits.{reply_limit}
-use Rattle.lc_term.specs.Drafts.{saved_in_draft}
+use Rattle.lc_ride.specs.Drafts.{saved_in_draft}
 use Rattle.lc_term.specs.Meaning.{State}
-use Rattle.lc_term.specs.declared.draft.Draft.{Draft}
+use Rattle.lc_ride.specs.declared.draft.Draft.{Draft}
 use Rattle.lc_object.specs.Syntax.{Operation}
 use Rattle.lc_machine.specs.Answered.{IsInCall}
 use Rattle.lc_machine.specs.Step as M

@@ -1,7 +1,7 @@
 //! A client's step: what its instruction does, and the riders beside the edge that it goes by.
 ghost use Rattle.std.specs.Prelude.{◌≡◌, ◌≤◌, true, length, IfOk, IfSome};
 ghost use Rattle.lc_base.specs.Limits.{reply_limit};
-ghost use Rattle.lc_term.specs.Drafts.{written_in_draft, saved_in_draft, draft_columns};
+ghost use Rattle.lc_ride.specs.Drafts.{written_in_draft, saved_in_draft, draft_columns};
 ghost use Rattle.lc_term.specs.State.{variable_count};
 ghost use Rattle.lc_term.specs.SystemColumns.{column_count};
 ghost use Rattle.lc_term.specs.Updates.{AreWithin};
@@ -24,8 +24,9 @@ use lc_base::PointId;
 use lc_machine::{Client, Effect, Fate, Place, StepFault, effect};
 use lc_object::EdgeKind;
 use lc_outline::Development;
+use lc_ride::Draft;
 use lc_ride::laws::riders_are_done;
-use lc_term::{Draft, Env};
+use lc_term::Env;
 use std::alloc::Global;
 
 // A client goes by an edge to a place, and the riders beside the edge are done.

@@ -1,6 +1,6 @@
 //! A call that begins.
 ghost use Rattle.std.specs.Prelude.{◌≡◌, true, [], length, slice_get, Some, IfOk};
-ghost use Rattle.lc_term.specs.Drafts.{written_in_draft, saved_in_draft, draft_columns};
+ghost use Rattle.lc_ride.specs.Drafts.{written_in_draft, saved_in_draft, draft_columns};
 ghost use Rattle.lc_term.specs.SystemColumns.{column_count};
 ghost use Rattle.lc_term.specs.UpdateView.{write_view, writes_view};
 ghost use Rattle.lc_action.specs.ActionView.{first_of};
@@ -24,7 +24,8 @@ use lc_base::{ColId, OpId, OutOfMemory, PointId};
 use lc_machine::{Client, Place, StepFault};
 use lc_object::Operation;
 use lc_outline::Development;
-use lc_term::{Draft, Env, Write};
+use lc_ride::Draft;
+use lc_term::{Env, Write};
 use std::alloc::Global;
 
 // The variables as a call begins.

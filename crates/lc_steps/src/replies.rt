@@ -4,7 +4,7 @@ ghost use Rattle.std.specs.Int.{w64};
 ghost use Rattle.std.specs.Ordering.{int_eq};
 ghost use Rattle.std.specs.Cmp.Lexicographic.{pointwise};
 ghost use Rattle.lc_base.specs.Limits.{reply_limit};
-ghost use Rattle.lc_term.specs.Drafts.{written_in_draft, saved_in_draft, draft_columns};
+ghost use Rattle.lc_ride.specs.Drafts.{written_in_draft, saved_in_draft, draft_columns};
 ghost use Rattle.lc_term.specs.State.{state_of, column_count};
 ghost use Rattle.lc_term.specs.SystemColumns as columns;
 ghost use Rattle.lc_term.specs.Updates.{row};
@@ -20,7 +20,8 @@ ghost use Rattle.lc_steps.specs.StepParts.{IsReturned};
 use lc_action::SystemColumns;
 use lc_base::ColId;
 use lc_machine::StepFault;
-use lc_term::{Draft, EvalFault, State, Write};
+use lc_ride::Draft;
+use lc_term::{EvalFault, State, Write};
 
 // The number in a client's cell of a column.
 fn cell(state: &State, column: ColId, client: u32) -> Result<i64, EvalFault>

@@ -1,6 +1,6 @@
 //! The riders beside an edge, done.
 ghost use Rattle.std.specs.Prelude.{◌≡◌};
-ghost use Rattle.lc_term.specs.Drafts.{written_in_draft, saved_in_draft, draft_columns};
+ghost use Rattle.lc_ride.specs.Drafts.{written_in_draft, saved_in_draft, draft_columns};
 ghost use Rattle.lc_term.specs.State.{variable_count};
 ghost use Rattle.lc_term.specs.SystemColumns.{column_count};
 ghost use Rattle.lc_outline.specs.Development.{first_system};
@@ -13,9 +13,9 @@ use lc_base::PointId;
 use lc_machine::StepFault;
 use lc_object::EdgeKind;
 use lc_outline::Development;
-use lc_ride::{Mark, Rides, ride_all};
+use lc_ride::{Draft, Mark, Rides, ride_all};
 use lc_seq::SeqFault;
-use lc_term::{Draft, Env};
+use lc_term::Env;
 use std::alloc::Global;
 
 // Why riders are not done, as a fault of a step.

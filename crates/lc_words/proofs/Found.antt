@@ -71,9 +71,10 @@ running_found f development certificate plan turns is_development is_certificate
     ∙ ap₂ (λ x y. option_and_then (λ d. option_and_then (λ c. option_and_then (λ p. option_map (RunPlan d c p) y) x) (first_of (codes "CERT") (rows_of f))) (first_of (codes "DEV") (rows_of f)))
     (is_plan ∙ first_value-rows f (codes "PLAN")) is_turns
 
-pub turns_found : (f : Found) (seed : Option ℕ) (seeds : Option Text) (turns : Option Turns) → seed ≡ number_given (codes "seed") (rows_of f) → seeds ≡ first_value f (codes "seeds") → turns ≡ turns_by seed seeds
-    → turns ≡ turns_given (rows_of f)
-turns_found f seed seeds turns is_seed is_seeds is = is ∙ ap₂ turns_by is_seed (is_seeds ∙ first_value-rows f (codes "seeds"))
+pub turns_found : (f : Found) (seed : Option ℕ) (seeds : Option Text) (trace : Bool) (turns : Option Turns) → seed ≡ number_given (codes "seed") (rows_of f) → seeds ≡ first_value f (codes "seeds")
+    → trace ≡ is_set (codes "trace") (rows_of f) → turns ≡ turns_by seed seeds trace → turns ≡ turns_given (rows_of f)
+turns_found f seed seeds trace turns is_seed is_seeds is_trace is =
+    is ∙ (ap₂ (λ x y. turns_by x y trace) is_seed (is_seeds ∙ first_value-rows f (codes "seeds")) ∙ ap (turns_by (number_given (codes "seed") (rows_of f)) (first_of (codes "seeds") (rows_of f))) is_trace)
 
 -- a history is drawn as the flag says
 pub drawing_found : (f : Found) (development history : Text) (html : Bool) → Some development ≡ first_value f (codes "DEV") → Some history ≡ first_value f (codes "HISTORY")

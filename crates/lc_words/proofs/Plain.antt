@@ -16,7 +16,7 @@ use Rattle.lc_words.specs.Commands.{program_app}
 use Rattle.lc_words.specs.Reading.{AskFor, AskForReasons, checked, is_explained, task_in, turns_by}
 use Rattle.lc_words.specs.Tasks.{HasPlainPaths, Task, CheckFormula, JudgeHistory, ShowDevelopment, ShowLines, ListConditions, ListChosen, ShowCondition, OfPoint, OfKind, OfBoth, ReadsFiles, CheckByWorkers, CheckCertificate, ProveDevelopment, ProveWithHints, DrawHistory, BeginDevelopment, FindOrder, MakeWhole, PrintLibrary, RunPlan, is_development_name, is_plain, range_text, words_for, CarryCertificate, CarryWithHints}
 use Rattle.lc_words.specs.declared.request.LibraryText.TheVariants.{Development, Certificate, Hints}
-use Rattle.lc_words.specs.declared.request.Turns.TheVariants.{Free, Drawn, DrawnEach}
+use Rattle.lc_words.specs.declared.request.Turns.TheVariants.{Free, Drawn, DrawnEach, Traced}
 use Rattle.lc_words.proofs.Numbers.{number_back, numbers_are_plain}
 use Rattle.lc_words.proofs.Ranges.{range_back, ranges_are_plain}
 use Rattle.lc_words.proofs.Workers.{number_passes, workers_are_few, workers_pass}
@@ -120,13 +120,19 @@ words_ask_both name (CarryWithHints old certificate new hints) is = asked_both n
 words_ask_both name (RunPlan development certificate plan Free) is = asked_both name (codes "run") (plain development is.0 ∷ plain certificate is.1 ∷ plain plan is.2 ∷ []) _ refl (refl, refl) (refl, refl) refl
 words_ask_both name (RunPlan development certificate plan (Drawn seed)) is =
     let pass = number_passes seed is.3 in
-    let read = ap (λ (s : Option ℕ). option_map (RunPlan development certificate plan) (turns_by s None)) (number_back seed is.3) in
+    let read = ap (λ (s : Option ℕ). option_map (RunPlan development certificate plan) (turns_by s None false)) (number_back seed is.3) in
     asked_both name (codes "run") (plain development is.0 ∷ plain certificate is.1 ∷ plain plan is.2 ∷ known (codes "--seed") ∷ plain (decimal seed) (numbers_are_plain seed is.3) ∷ []) _ refl
     (ap passed pass, read) (ap passed_too pass, read) refl
 words_ask_both name (RunPlan development certificate plan (DrawnEach first end)) is =
     let read = ap (λ (r : Option (ℕ × ℕ)). option_map (RunPlan development certificate plan) (option_map (λ r. DrawnEach r.0 r.1) r)) (range_back first end is.3.0 is.3.1) in
     asked_both name (codes "run") (plain development is.0 ∷ plain certificate is.1 ∷ plain plan is.2 ∷ known (codes "--seeds") ∷ plain (range_text first end) (ranges_are_plain first end is.3.0) ∷ []) _ refl
     (refl, read) (refl, read) refl
+words_ask_both name (RunPlan development certificate plan (Traced None)) is = asked_both name (codes "run") (plain development is.0 ∷ plain certificate is.1 ∷ plain plan is.2 ∷ known (codes "--trace") ∷ []) _ refl (refl, refl) (refl, refl) refl
+words_ask_both name (RunPlan development certificate plan (Traced (Some seed))) is =
+    let pass = number_passes seed is.3 in
+    let read = ap (λ (s : Option ℕ). option_map (RunPlan development certificate plan) (turns_by s None true)) (number_back seed is.3) in
+    asked_both name (codes "run") (plain development is.0 ∷ plain certificate is.1 ∷ plain plan is.2 ∷ known (codes "--trace") ∷ known (codes "--seed") ∷ plain (decimal seed) (numbers_are_plain seed is.3) ∷ []) _ refl
+    (ap passed pass, read) (ap passed_too pass, read) refl
 words_ask_both name (DrawHistory development history false) is = asked_both name (codes "draw") (plain development is.0 ∷ plain history is.1 ∷ []) _ refl (refl, refl) (refl, refl) refl
 words_ask_both name (DrawHistory development history true) is = asked_both name (codes "draw") (plain development is.0 ∷ plain history is.1 ∷ known (codes "--html") ∷ []) _ refl (refl, refl) (refl, refl) refl
 words_ask_both name (BeginDevelopment own) is =

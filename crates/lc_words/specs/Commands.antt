@@ -85,9 +85,13 @@ number_rule name = record (option_rule name) { parser = Some (Unsigned 0 1844674
 abbrev pub run_files_app : App
 run_files_app = with_rule (with_rule (with_rule (new_app (codes "run")) (file_rule (codes "DEV"))) (file_rule (codes "CERT"))) (file_rule (codes "PLAN"))
 
--- `run DEV CERT PLAN [--seed N] [--seeds A..B] [--quiet] [--explain]`
+-- `run DEV CERT PLAN [--seed N] [--seeds A..B]`
+abbrev pub run_seeds_app : App
+run_seeds_app = with_rule (with_rule run_files_app (number_rule (codes "seed"))) (option_rule (codes "seeds"))
+
+-- `run DEV CERT PLAN [--seed N] [--seeds A..B] [--trace] [--quiet] [--explain]`
 abbrev pub run_app : App
-run_app = explained (with_rule (with_rule run_files_app (number_rule (codes "seed"))) (option_rule (codes "seeds")))
+run_app = explained (with_rule run_seeds_app (flag_rule (codes "trace")))
 
 -- `library NAME [--certificate] [--hints]`
 abbrev pub library_app : App

@@ -15,7 +15,7 @@ use Rattle.lc_words.specs.declared.request.LibraryText.{LibraryText}
 use Rattle.lc_words.specs.declared.request.LibraryText.TheVariants.{Development, Certificate, Hints}
 use Rattle.lc_words.specs.declared.request.Request.{Request}
 use Rattle.lc_words.specs.declared.request.Turns.{Turns}
-use Rattle.lc_words.specs.declared.request.Turns.TheVariants.{Free, Drawn, DrawnEach}
+use Rattle.lc_words.specs.declared.request.Turns.TheVariants.{Free, Drawn, DrawnEach, Traced}
 
 -- the task with the file that these arguments name so
 abbrev pub one_file_task : (List ℕ → Task) → Text → List Row → Option Task
@@ -121,16 +121,20 @@ range_of first (between, end) =
 abbrev pub range_in : Text → Option (ℕ × ℕ)
 range_in text = option_and_then (λ p. option_and_then (range_of p.0) (parted p.1)) (parted text)
 
--- whose turn it is in a run, by a seed, or by the range of the seeds of several runs, which exclude each other
-abbrev pub turns_by : (seed : Option ℕ) (seeds : Option Text) → Option Turns
-turns_by None None = Some Free
-turns_by (Some seed) None = Some (Drawn seed)
-turns_by None (Some text) = option_map (λ r. DrawnEach r.0 r.1) (range_in text)
-turns_by (Some seed) (Some text) = None
+-- whose turn it is in a run, by a seed, or by the range of the seeds of several runs, which exclude each other; each step of one run may
+-- be told
+abbrev pub turns_by : (seed : Option ℕ) (seeds : Option Text) (trace : Bool) → Option Turns
+turns_by None None false = Some Free
+turns_by (Some seed) None false = Some (Drawn seed)
+turns_by None None true = Some (Traced None)
+turns_by (Some seed) None true = Some (Traced (Some seed))
+turns_by None (Some text) false = option_map (λ r. DrawnEach r.0 r.1) (range_in text)
+turns_by None (Some text) true = None
+turns_by (Some seed) (Some text) trace = None
 
 -- and so by these arguments
 abbrev pub turns_given : List Row → Option Turns
-turns_given rows = turns_by (number_given (codes "seed") rows) (first_of (codes "seeds") rows)
+turns_given rows = turns_by (number_given (codes "seed") rows) (first_of (codes "seeds") rows) (is_set (codes "trace") rows)
 
 -- the task of running the development that these arguments name, with the certificate and the plan that they name
 abbrev pub running_task : List Row → Option Task

@@ -16,7 +16,7 @@ use Rattle.lc_words.specs.declared.request.LibraryText.TheVariants.{Development,
 use Rattle.lc_words.specs.declared.request.Request.{Request}
 use Rattle.lc_words.specs.declared.request.Request.TheVariants.{Formula, Judge, Show, Conditions, Check, Prove, Draw, New, Library, Carry, Run, Order, Complete}
 use Rattle.lc_words.specs.declared.request.Turns.{Turns}
-use Rattle.lc_words.specs.declared.request.Turns.TheVariants.{Free, Drawn, DrawnEach}
+use Rattle.lc_words.specs.declared.request.Turns.TheVariants.{Free, Drawn, DrawnEach, Traced}
 
 -- Which conditions are chosen: those of a point, of a kind, or of both, by their words
 pub data Filter : Type 0 where
@@ -29,7 +29,7 @@ pub data Filter : Type 0 where
 -- one is shown by its number; that the certificate in one file is checked against the development in another, by itself or by a number of
 -- workers; that a certificate is found for the development in a file, without hints or with those in another; that a certificate is found
 -- for a new development, with the proofs of an old one, by its certificate, without hints or with those in a further file; that the
--- development in a file is run, which the certificate in another proves, by the plan in a third, in threads or with turns that are drawn; that
+-- development in a file is run, which the certificate in another proves, by the plan in a third, in threads or with turns that are drawn, and each step told or not; that
 -- the history in one file is drawn by the specification in another, as a picture or as a page; that a development with a name is begun; that a text of an object of the library is printed; that an
 -- order is found that linearizes the history in one file by the specification in another, or a word says whether there is one, over as
 -- many nodes as a number says, if one is given; or that the short development in a file is made whole, in as many steps for a condition as a
@@ -148,11 +148,13 @@ budget_words (Some n) = codes "--budget" ∷ decimal n ∷ []
 abbrev pub range_text : ℕ → ℕ → Text
 range_text first end = decimal first ++ (codes ".." ++ decimal end)
 
--- the options by which turns are drawn
+-- the options by which turns are drawn, and steps told
 abbrev pub turn_words : Turns → List Text
 turn_words Free = []
 turn_words (Drawn seed) = codes "--seed" ∷ decimal seed ∷ []
 turn_words (DrawnEach first end) = codes "--seeds" ∷ range_text first end ∷ []
+turn_words (Traced None) = codes "--trace" ∷ []
+turn_words (Traced (Some seed)) = codes "--trace" ∷ codes "--seed" ∷ decimal seed ∷ []
 
 -- the option of a page
 abbrev pub page_words : (html : Bool) → List Text
@@ -192,6 +194,8 @@ abbrev pub AreSeeds : Turns → Type 0
 AreSeeds Free = Unit {0}
 AreSeeds (Drawn seed) = seed < 2 ^ 64
 AreSeeds (DrawnEach first end) = (first < 2 ^ 64) × (end < 2 ^ 64)
+AreSeeds (Traced None) = Unit {0}
+AreSeeds (Traced (Some seed)) = seed < 2 ^ 64
 
 -- none of its paths begins with a hyphen, what is to be a name is one, a number has 64 bits, and workers are from 1 to their limit
 abbrev pub HasPlainPaths : Task → Type 0

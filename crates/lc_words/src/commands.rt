@@ -14,8 +14,8 @@ use crate::texts::{
     JUDGE_HISTORY, LIBRARY, LIBRARY_ANSWER, LIBRARY_CERTIFICATE, LIBRARY_HINTS, NEW, NEW_ANSWER,
     NEW_DEVELOPMENT, NEW_HINTS, NEW_NAME, OBJECT, OLD, OLD_CERTIFICATE, ORDER, ORDER_ANSWER,
     ORDER_BUDGET, ORDER_CHECK, ORDER_HISTORY, PLAN_FILE, PROGRESS, PROVE, PROVE_ALL, PROVE_ANSWER,
-    QUIET, RUN, RUN_ANSWER, RUN_SEED, RUN_SEEDS, SHORT, SHOW, SHOW_ANSWER, SHOW_LINES, VERSION,
-    WORKERS,
+    QUIET, RUN, RUN_ANSWER, RUN_SEED, RUN_SEEDS, RUN_TRACE, SHORT, SHOW, SHOW_ANSWER, SHOW_LINES,
+    VERSION, WORKERS,
 };
 use clap::builder::ValueParser;
 use clap::{Arg, ArgAction, Command};
@@ -177,6 +177,7 @@ static RUN_COMMAND: Described = Described {
         Argument::Place("PLAN", PLAN_FILE),
         Argument::Number("seed", RUN_SEED, 0, u64::MAX),
         Argument::Value("seeds", "A..B", RUN_SEEDS),
+        Argument::Flag("trace", RUN_TRACE),
         Argument::Flag("quiet", QUIET),
         Argument::Flag("explain", EXPLAIN),
     ],

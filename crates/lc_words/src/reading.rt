@@ -213,18 +213,20 @@ fn range_in(text: &str) -> Option<(u64, u64)>
     Some((first, end))
 }
 
-/// Whose turn it is in a run, by a seed, or by a text with the seeds of several runs, which exclude each other.
-fn turns_by(seed: Option<u64>, seeds: Option<&str>) -> Option<Turns>
-    ensures { result ≡ turns_by seed (path_in seeds.entry) }
+/// Whose turn it is in a run, by a seed, or by a text with the seeds of several runs, which exclude each other; each step of one run
+/// may be told.
+fn turns_by(seed: Option<u64>, seeds: Option<&str>, trace: bool) -> Option<Turns>
+    ensures { result ≡ turns_by seed (path_in seeds.entry) trace }
 {
-    match (seed, seeds) {
-        (None, None) => Some(Turns::Free),
-        (Some(seed), None) => Some(Turns::Drawn(seed)),
-        (None, Some(text)) => {
+    match (seed, seeds, trace) {
+        (None, None, false) => Some(Turns::Free),
+        (Some(seed), None, false) => Some(Turns::Drawn(seed)),
+        (seed, None, true) => Some(Turns::Traced(seed)),
+        (None, Some(text), false) => {
             let (first, end) = range_in(text)?;
             Some(Turns::DrawnEach(first, end))
         }
-        (Some(_), Some(_)) => None,
+        (None, Some(_), true) | (Some(_), Some(_), _) => None,
     }
 }
 
@@ -236,7 +238,8 @@ fn run_request<'a>(command: &ArgMatches<'a>) -> Option<Request<'a>>
     let plan = command.get_str("PLAN")?;
     let seed = number_given(command, "seed");
     let seeds = command.get_str("seeds");
-    let turns = turns_by(seed, seeds)?;
+    let trace = is_set(command, "trace");
+    let turns = turns_by(seed, seeds, trace)?;
     Some(Request::Run {
         development,
         certificate,
@@ -353,6 +356,11 @@ fn run_fault(command: &ArgMatches<'_>) -> (ErrorKind, &'static str)
         (
             ErrorKind::ArgumentConflict,
             "`--seed` and `--seeds` exclude each other",
+        )
+    } else if is_set(command, "trace") {
+        (
+            ErrorKind::ArgumentConflict,
+            "`--trace` and `--seeds` exclude each other",
         )
     } else {
         (

@@ -21,7 +21,7 @@ pub enum Chosen<'a> {
     },
 }
 
-/// Whose turn it is in a run.
+/// Whose turn it is in a run, and whether its steps are told.
 #[derive(Clone, Copy)]
 pub enum Turns {
     /// Each client's, in a thread of its own.
@@ -30,6 +30,8 @@ pub enum Turns {
     Drawn(u64),
     /// The same in a run for each seed from the first to before the second.
     DrawnEach(u64, u64),
+    /// Each client's in a thread of its own, or drawn from a seed, if one is given; each step is told.
+    Traced(Option<u64>),
 }
 
 /// What the command line asks for.

@@ -322,6 +322,9 @@ pub(crate) const RUN_SEED: &str =
 pub(crate) const RUN_SEEDS: &str =
     "Make a run for each seed from A to before B, and print a line for each";
 
+pub(crate) const RUN_TRACE: &str =
+    "Print each step with the cells that it changes, in place of the history";
+
 pub(crate) const RUN_ANSWER: &str = "\
 Reads DEV and CERT as `check` does, and then PLAN. Runs the object by the clients of the plan, each in a thread of its own: the phases
 come one after another, and in each its clients make their calls side by side. Prints `linearizable COUNT`, with the number of calls
@@ -335,6 +338,12 @@ those that make a further call in the phase: so the calls overlap, and the same 
 --seeds A..B such a run is made for each seed from A to before B, and for each one line is printed, with a word for each client that
 did not come to its end:
   seed N linearizable COUNT client C spent ..
+With --trace, and with --seed N or without, a line for each step is printed in place of the history, a JSON array, with the entries of
+the marks that it makes and the cells that it changes:
+  [CLIENT,\"call\",OPERATION,[NUMBER,..],[],[CELL,..]]
+  [CLIENT,POINT,EDGE,[ENTRY,..],[CELL,..]]
+  [CLIENT,\"return\",[NUMBER,..],[ENTRY,..],[CELL,..]]
+An ENTRY is as in the order of a history, or [\"note\",ENTRY]; a CELL is [COLUMN,INDEX,NUMBER].
 Else it prints one line:
   refused CODE ..  DEV or CERT is refused as by `check`, or PLAN by the codes 1 to 4 and 6
 
@@ -342,7 +351,9 @@ Examples:
   lincheck run examples/counter.lc examples/counter.cert examples/counter.plan
       prints `linearizable 201`, and how two clients counted to 200
   lincheck run examples/counter.lc examples/counter.cert examples/counter.plan --seeds 0..1000
-      prints a line for each of a thousand runs";
+      prints a line for each of a thousand runs
+  lincheck run examples/counter.lc examples/counter.cert examples/counter.plan --seed 7 --trace
+      prints the steps of the run of a seed";
 
 pub(crate) const LIBRARY: &str = "Prints an object of the library";
 

@@ -31,12 +31,13 @@ use Rattle.lc_reading.specs.Files.{Says, IsFirstRefusal, IsAnswerTo}
 use Rattle.lc_run.specs.LabelView.{labels_of}
 use Rattle.lc_seq.specs.declared.choice.Pick.{Pick}
 use Rattle.lc_seq.specs.declared.text_call.TextCall.{TextCall}
+use Rattle.lc_trace.specs.Traces.{TellsSteps}
 use Rattle.lc_words.specs.declared.request.Turns.{Turns}
 use Rattle.lincheck.specs.Answers.{ToldFault}
 use Rattle.lincheck.specs.Carry.{RefusesCertificate}
 use Rattle.lincheck.specs.Check.{TellsRefusal}
 use Rattle.lincheck.specs.Reading.{OfFile, within_limit}
-use Rattle.lincheck.specs.Run.{AnswersPlan, AnswersProvenRun, AnswersRun, IsUnreadPlan, IsUnreadRun, OpensAccepted, OpensPlan, RefusesPlan, RunsBy, TellsRun, TellsSeed, TellsSeeds, end_text, ended_text, ran_text, run_text, seed_text}
+use Rattle.lincheck.specs.Run.{AnswersPlan, AnswersProvenRun, AnswersRun, IsUnreadPlan, IsUnreadRun, OpensAccepted, OpensPlan, RefusesPlan, RunsBy, TellsRun, TellsSeed, TellsSeeds, TellsTrace, TracesRan, end_text, ended_text, ran_text, run_text, seed_text, trace_text}
 use Rattle.lincheck.specs.declared.answer.Answer.{Answer}
 use Rattle.lincheck.specs.declared.answer.Failure.{Failure}
 use Rattle.lincheck.proofs.Opened.{refusal_of_certificate}
@@ -160,6 +161,32 @@ seed_told D P seed count ran ends line is counted ended same = (
   is.ordered,
   same ∙ ap₂ (seed_text seed) (counted ∙ sym (length-map ran.log.order.items entry_view) ∙ ap length is.entries) ended,
 )
+
+-- the trace of what has run is its words, then its clients, then its steps
+pub trace_is : (D : Development) (n : ℕ) (ran : Ran) (count : ℕ) (ends : List Ended) (first heads lines text : List ℕ) → TellsSteps D n (labels_of ran.log.labels.items) lines → count ≡ length ran.log.order.items → ends ≡ ran.ends.items
+    → first ≡ line_of (codes "linearizable") (count ∷ []) → heads ≡ first ++ flat_map end_text ends → text ≡ heads ++ lines → TracesRan D n ran text
+trace_is D n ran count ends first heads lines text tells counted ended is_first is_heads is_text = (
+  lines,
+  tells,
+  is_text ∙ ap (λ h. h ++ lines) (is_heads ∙ ap₂ (λ (h : List ℕ) es. h ++ flat_map end_text es) (is_first ∙ ap (λ k. line_of (codes "linearizable") (k ∷ [])) counted) ended),
+)
+
+-- and it is that of its labels
+pub trace_told : (D : Development) (P : S.Plan) (ran : Ran) (text : List ℕ) → IsRunOf D P.clients P.phases ran → TracesRan D P.clients ran text → TellsTrace D P text
+trace_told D P ran text is (lines, tells, same) = (
+  labels_of ran.log.labels.items,
+  ran.ends.items,
+  lines,
+  is.ordered,
+  tells,
+  same ∙ ap (λ k. trace_text k ran.ends.items lines) (sym (length-map ran.log.order.items entry_view) ∙ ap length is.entries),
+)
+
+-- if there is one
+pub trace_answered : {X : Type 0} (D E : Development) (P : S.Plan) (ran : Ran) (r : Result (Vec ℕ Global) X) → E ≡ D → IsRunOf D P.clients P.phases ran → IfOk r (λ text. TracesRan E P.clients ran text.items)
+    → IfOk r (λ text. TellsTrace D P text.items)
+trace_answered D E P ran (Ok text) same is told = trace_told D P ran text.items is (subst (λ (F : Development). TracesRan F P.clients ran text.items) same told)
+trace_answered D E P ran (Err e) same is told = tt
 
 -- ---- files that cannot be opened
 

@@ -23,10 +23,12 @@ use Rattle.lc_plan.specs.Readings.{plan_reading}
 use Rattle.lc_plan.specs.View.{plan_of}
 use Rattle.lc_plan.specs.declared.plan.Plan.{Plan}
 use Rattle.lc_reading.specs.Files.{Says, IsFirstRefusal}
+use Rattle.lc_run.specs.LabelView.{labels_of}
 use Rattle.lc_sound.specs.Instrumented.{Label, history}
 use Rattle.lc_sound.specs.Order.{order}
+use Rattle.lc_trace.specs.Traces.{TellsSteps}
 use Rattle.lc_words.specs.declared.request.Turns.{Turns}
-use Rattle.lc_words.specs.declared.request.Turns.TheVariants.{Free, Drawn, DrawnEach}
+use Rattle.lc_words.specs.declared.request.Turns.TheVariants.{Free, Drawn, DrawnEach, Traced}
 use Rattle.lincheck.specs.Answers.{ToldFault}
 use Rattle.lincheck.specs.Carry.{RefusesCertificate}
 use Rattle.lincheck.specs.Check.{TellsRefusal}
@@ -80,11 +82,27 @@ abbrev pub TellsSeeds : Development → S.Plan → (n seed : ℕ) → List ℕ �
 TellsSeeds D P zero seed text = text ≡ []
 TellsSeeds D P (suc n) seed text = (line : List ℕ) × (rest : List ℕ) × TellsSeed D P seed line × TellsSeeds D P n (suc seed) rest × (text ≡ line ++ rest)
 
+-- the line `linearizable` with the number of entries, a line for each client that did not come to its end, and the lines of the steps
+abbrev pub trace_text : ℕ → List Ended → List ℕ → List ℕ
+trace_text entries ends lines = line_of (codes "linearizable") (entries ∷ []) ++ flat_map end_text ends ++ lines
+
+-- and so of what has run by n clients: its steps are told
+abbrev pub TracesRan : Development → ℕ → Ran → List ℕ → Type 0
+TracesRan D n ran text =
+    (lines : List ℕ) × TellsSteps D n (labels_of ran.log.labels.items) lines × (text ≡ trace_text (length ran.log.order.items) ran.ends.items lines)
+
+-- what is printed of a run by a plan in which each step is told, with the marks that it makes and the cells that it changes
+abbrev pub TellsTrace : Development → S.Plan → List ℕ → Type 0
+TellsTrace D P text =
+    (labels : List Label) × (ends : List Ended) × (lines : List ℕ)
+    × IsOrdered D P.clients P.phases labels ends × TellsSteps D P.clients labels lines × (text ≡ trace_text (length (order labels)) ends lines)
+
 -- what is printed by a plan, by whose turn it is
 abbrev pub TellsBy : Turns → Development → S.Plan → List ℕ → Type 0
 TellsBy Free D P text = TellsRun D P text
 TellsBy (Drawn seed) D P text = TellsRun D P text
 TellsBy (DrawnEach first end) D P text = TellsSeeds D P (end - first) first text
+TellsBy (Traced seed) D P text = TellsTrace D P text
 
 -- what has run is reported, with status 0; or seats did not match, and nothing is printed
 abbrev pub RunsBy : Turns → Development → S.Plan → List ℕ → ℕ → Type 0

@@ -8,10 +8,12 @@ ghost use Rattle.lc_crew.specs.Ran.{IsRunOf};
 ghost use Rattle.lc_outline.specs.DevelopmentView.{development_view};
 ghost use Rattle.lc_plan.specs.Readings.{plan_reading};
 ghost use Rattle.lc_plan.specs.View.{plan_of};
+ghost use Rattle.lc_run.specs.LabelView.{labels_of};
+ghost use Rattle.lc_trace.specs.Traces.{TellsSteps};
 ghost use Rattle.lc_words.specs.Tasks.{RunPlan};
 ghost use Rattle.lincheck.specs.Execution.{AnswersTask, IsUnread};
 ghost use Rattle.lincheck.specs.Reading.{OfFile};
-ghost use Rattle.lincheck.specs.Run.{AnswersPlan, AnswersProvenRun, IsUnreadPlan, OpensAccepted, OpensPlan, RunsBy, TellsBy, TellsRun, TellsSeeds, end_text, ended_text, halt_text, ran_text, seed_text};
+ghost use Rattle.lincheck.specs.Run.{AnswersPlan, AnswersProvenRun, IsUnreadPlan, OpensAccepted, OpensPlan, RunsBy, TellsBy, TellsRun, TellsSeeds, TellsTrace, TracesRan, end_text, ended_text, halt_text, ran_text, seed_text};
 
 use crate::answer::{Answer, Failure, SEATS_DO_NOT_MATCH, SUCCESS, told_fault};
 use crate::check::open_development;
@@ -25,6 +27,7 @@ use lc_hist::history_to_json;
 use lc_outline::Development;
 use lc_plan::{Plan, plan_in};
 use lc_sexp::FormsReader;
+use lc_trace::{TraceFault, trace};
 use lc_words::Turns;
 use std::alloc::Global;
 use std::io::Write;
@@ -214,6 +217,53 @@ fn text_with<R: Threads + Wait + Sync>(
     Ok(ran_text(alloc, ours.development(), &ran)?)
 }
 
+/// The lines of the steps of what has run.
+fn step_lines(
+    alloc: Global,
+    development: &Development,
+    clients: u32,
+    ran: &Ran,
+) -> Result<Vec<u8>, Stop>
+    ensures { IfOk result (λ lines. TellsSteps (development_view development.now) clients (labels_of ran.now.log.labels.items) lines.items) }
+{
+    match trace(alloc, development, clients, &ran.log.labels) {
+        Ok(lines) => Ok(lines),
+        Err(TraceFault::OutOfMemory) => Err(Stop::OutOfMemory),
+        Err(TraceFault::Mismatch) => Err(Stop::Mismatch),
+    }
+}
+
+/// What is printed of a run in which each step is told.
+fn trace_text(
+    alloc: Global,
+    development: &Development,
+    clients: u32,
+    ran: &Ran,
+) -> Result<Vec<u8>, Stop>
+    ensures { IfOk result (λ text. TracesRan (development_view development.now) clients ran.now text.items) }
+{
+    let lines = step_lines(alloc, development, clients, ran)?;
+    let mut text = write_line(alloc, "linearizable", &[ran.log.order.len() as u64])?;
+    push_ends(alloc, &mut text, &ran.ends)?;
+    text.extend_from_slice(&lines)?;
+    Ok(text)
+}
+
+/// What is printed of a run by a plan, each step of which is told.
+fn traced_with<R: Threads + Wait + Sync>(
+    rt: &R,
+    alloc: Global,
+    accepted: Arc<Accepted>,
+    plan: &Plan,
+    seed: Option<u64>,
+) -> Result<Vec<u8>, Stop>
+    ensures { IfOk result (λ text. TellsTrace (development_in (arc_value accepted)) (plan_of plan.now) text.items) }
+{
+    let ours = Arc::try_clone(&accepted)?;
+    let ran = ran_with(rt, alloc, accepted, plan, seed)?;
+    trace_text(alloc, ours.development(), plan.clients, &ran)
+}
+
 /// What is printed of a run by a plan, or of several.
 fn text_by<R: Threads + Wait + Sync>(
     rt: &R,
@@ -228,6 +278,7 @@ fn text_by<R: Threads + Wait + Sync>(
         Turns::Free => text_with(rt, alloc, accepted, plan, None),
         Turns::Drawn(seed) => text_with(rt, alloc, accepted, plan, Some(seed)),
         Turns::DrawnEach(first, end) => seeds_text(rt, alloc, accepted, plan, first, end),
+        Turns::Traced(seed) => traced_with(rt, alloc, accepted, plan, seed),
     }
 }
 

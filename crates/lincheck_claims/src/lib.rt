@@ -114,7 +114,7 @@ impl<'a, R: Threads + Wait + Sync> Program<'a, R> {
     }
 
     /// `run` prints what clients did by a plan, with the number of the entries of an order that linearizes it; with seeds a line for each
-    /// run, in their order.
+    /// run, in their order; with a trace a line for each step.
     pub fn running(&mut self, deeds: &mut Vec<u8>, err: &mut Vec<u8>) -> u8
         ensures { (turns : Turns) → EndsWith (texts_of self.old.words.now) (RunPlan (codes "a") (codes "b") (codes "c") turns)
             (AnswersRun turns self.old.files.0.now (Some self.old.files.1.now) (Some self.old.files.2.now)) deeds.old.items deeds.new.items result }

@@ -1,6 +1,6 @@
 use Rattle.std.proofs.Common.{◌≡◌, pos, rules, subst}
 use Rattle.lc_action.specs.ActionView.{first_of}
-use Rattle.lc_term.specs.Drafts.{written_in_draft}
+use Rattle.lc_ride.specs.Drafts.{written_in_draft}
 use Rattle.lc_seq.specs.SpecView.{operations_of, choice_of}
 use Rattle.lc_ride.specs.Riding.{help}
 use Rattle.lc_ride.specs.RidingFits.{HelpFits}

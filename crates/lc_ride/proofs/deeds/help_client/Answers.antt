@@ -4,7 +4,7 @@ use Rattle.std.specs.Int.{w64}
 use Rattle.std.specs.Ordering.{int_eq}
 use Rattle.lc_term.specs.SystemColumns.{op_column}
 use Rattle.lc_action.specs.ActionView.{first_of}
-use Rattle.lc_term.specs.Drafts.{written_in_draft}
+use Rattle.lc_ride.specs.Drafts.{written_in_draft}
 use Rattle.lc_seq.specs.SpecView.{operations_of, choice_of}
 use Rattle.lc_ride.proofs.Deeding.{helped, not-named}
 use Rattle.lc_ride.proofs.deeds.help_client.Goals as goal

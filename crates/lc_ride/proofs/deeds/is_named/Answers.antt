@@ -5,7 +5,7 @@ use Rattle.std.specs.Ordering.{int_eq}
 use Rattle.lc_term.specs.State.{state_of}
 use Rattle.lc_term.specs.SystemColumns.{op_column}
 use Rattle.lc_action.specs.ActionView.{first_of}
-use Rattle.lc_term.specs.Drafts.{written_in_draft}
+use Rattle.lc_ride.specs.Drafts.{written_in_draft}
 use Rattle.lc_ride.proofs.deeds.is_named.Goals as goal
 
 pub returns : goal.returns

@@ -1,5 +1,5 @@
 use Rattle.std.proofs.Common.{ap, sym, subst}
-use Rattle.lc_term.specs.Drafts.{written_in_draft}
+use Rattle.lc_ride.specs.Drafts.{written_in_draft}
 use Rattle.lc_rider.specs.RiderView.{rider_of}
 use Rattle.lc_ride.specs.Calls.{Does}
 use Rattle.lc_ride.proofs.riding.do_deed.Goals as goal

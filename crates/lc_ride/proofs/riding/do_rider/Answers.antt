@@ -6,7 +6,7 @@ use Rattle.lc_term.specs.State.{state_of, env_of}
 use Rattle.lc_term.specs.Truth.{truth}
 use Rattle.lc_term.specs.View.{formula_of}
 use Rattle.lc_action.specs.ActionView.{first_of}
-use Rattle.lc_term.specs.Drafts.{written_in_draft}
+use Rattle.lc_ride.specs.Drafts.{written_in_draft}
 use Rattle.lc_seq.specs.SpecView.{operations_of}
 use Rattle.lc_seq.proofs.Runs.{answer_is_truth}
 use Rattle.lc_rider.specs.RiderView.{rider_of, formula_in}

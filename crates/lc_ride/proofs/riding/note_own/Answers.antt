@@ -1,5 +1,5 @@
 use Rattle.std.proofs.Common.{subst}
-use Rattle.lc_term.specs.Drafts.{written_in_draft, draft_columns}
+use Rattle.lc_ride.specs.Drafts.{written_in_draft, draft_columns}
 use Rattle.lc_term.specs.State.{state_of}
 use Rattle.lc_seq.specs.SpecView.{choice_of}
 use Rattle.lc_rider.specs.Rider.{Note}

@@ -2,7 +2,7 @@ use Rattle.std.proofs.Common.{◌≡◌, ◌+◌, ◌∷◌, true, false, Ok, dr
 use Rattle.std.specs.List.{list_all}
 use Rattle.lc_lemmas.proofs.Lists.{drop_at_element, dropped_all}
 use Rattle.lc_lemmas.proofs.Booleans.{right_true}
-use Rattle.lc_term.specs.Drafts.{written_in_draft, saved_in_draft, draft_columns}
+use Rattle.lc_ride.specs.Drafts.{written_in_draft, saved_in_draft, draft_columns}
 use Rattle.lc_term.specs.State.{env_of, variable_count}
 use Rattle.lc_action.specs.ActionView.{first_of}
 use Rattle.lc_seq.specs.SpecView.{operations_of}

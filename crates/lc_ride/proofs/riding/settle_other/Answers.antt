@@ -1,6 +1,6 @@
 use mir.Val.{to_z, of_z}
 use Rattle.std.proofs.Common.{◌≡◌, sym, subst, ◌∙◌, rules, w64}
-use Rattle.lc_term.specs.Drafts.{written_in_draft}
+use Rattle.lc_ride.specs.Drafts.{written_in_draft}
 use Rattle.lc_term.specs.Meaning.{outside, value}
 use Rattle.lc_term.specs.Reached.{TermFits}
 use Rattle.lc_term.specs.State.{state_of, env_of}

@@ -1,5 +1,5 @@
 use Rattle.std.proofs.Common.{◌≡◌, sym, subst, ◌∙◌}
-use Rattle.lc_term.specs.Drafts.{written_in_draft}
+use Rattle.lc_ride.specs.Drafts.{written_in_draft}
 use Rattle.lc_machine.specs.View.{client_of}
 use Rattle.lc_ride.specs.RideView.{marks_of}
 use Rattle.lc_sound.specs.Instrumented.{Instrumented}

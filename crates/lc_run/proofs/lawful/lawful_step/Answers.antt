@@ -1,5 +1,5 @@
 use Rattle.std.proofs.Common.{Ok, Err, sym, subst, ◌∙◌}
-use Rattle.lc_term.specs.Drafts.{written_in_draft}
+use Rattle.lc_ride.specs.Drafts.{written_in_draft}
 use Rattle.lc_check.specs.VerdictView.{development_in}
 use Rattle.lc_outline.specs.DevelopmentView.{development_view}
 use Rattle.lc_sound.specs.Derived.{AreDerived}

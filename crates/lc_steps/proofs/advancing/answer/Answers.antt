@@ -1,5 +1,5 @@
 use Rattle.std.proofs.Common.{◌≡◌, true, false, Ok, Err, refl, subst, rules}
-use Rattle.lc_term.specs.Drafts.{written_in_draft}
+use Rattle.lc_ride.specs.Drafts.{written_in_draft}
 use Rattle.lc_object.specs.declared.instr.EdgeKind.TheVariants.{Next}
 use Rattle.lc_machine.specs.Step.{Answers}
 use Rattle.lc_action.specs.ActionView.{first_of}

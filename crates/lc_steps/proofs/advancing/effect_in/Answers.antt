@@ -1,6 +1,6 @@
 use Rattle.std.proofs.Common.{◌≡◌, ◌≤◌, true, Some, length, ap, sym, subst, ◌∙◌}
 use Rattle.lc_term.specs.State.{state_of, column_count}
-use Rattle.lc_term.specs.Drafts.{written_in_draft, draft_columns}
+use Rattle.lc_ride.specs.Drafts.{written_in_draft, draft_columns}
 use Rattle.lc_object.specs.Objects.{object_view}
 use Rattle.lc_machine.specs.MayRun.{variables_at}
 use Rattle.lc_machine.specs.View.{variables_of}

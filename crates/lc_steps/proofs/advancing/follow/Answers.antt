@@ -1,5 +1,5 @@
 use Rattle.std.proofs.Common.{◌≡◌, ◌≤◌, length, sym, subst}
-use Rattle.lc_term.specs.Drafts.{written_in_draft}
+use Rattle.lc_ride.specs.Drafts.{written_in_draft}
 use Rattle.lc_machine.specs.Effects.{outcome_of, IsReached}
 use Rattle.lc_machine.specs.View.{variables_of}
 use Rattle.lc_outline.specs.DevelopmentView.{development_view}

@@ -1,5 +1,5 @@
 use Rattle.std.proofs.Common.{◌≡◌, sym, subst, rules}
-use Rattle.lc_term.specs.Drafts.{written_in_draft, draft_columns}
+use Rattle.lc_ride.specs.Drafts.{written_in_draft, draft_columns}
 use Rattle.lc_term.specs.UpdateView.{writes_view}
 use Rattle.lc_term.specs.Updates.{stored_all, AreWithin}
 use Rattle.lc_machine.specs.Effects.{writes_in, outcome_of}

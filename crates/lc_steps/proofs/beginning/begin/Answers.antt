@@ -4,7 +4,7 @@ use Rattle.lc_base.specs.Name.{bytes_of}
 use Rattle.lc_object.specs.View.{operation_of}
 use Rattle.lc_machine.specs.View.{client_of, clients_of}
 use Rattle.lc_outline.specs.DevelopmentView.{development_view}
-use Rattle.lc_term.specs.Drafts.{written_in_draft}
+use Rattle.lc_ride.specs.Drafts.{written_in_draft}
 use Rattle.lc_steps.specs.StepView.{world_in}
 use Rattle.lc_steps.proofs.Begun.{refused}
 use Rattle.lc_steps.proofs.beginning.begin.Goals as goal

@@ -1,5 +1,5 @@
 use Rattle.std.proofs.Common.{◌≡◌, ap, sym, subst, ◌∙◌, [], refl, length, rules}
-use Rattle.lc_term.specs.Drafts.{written_in_draft}
+use Rattle.lc_ride.specs.Drafts.{written_in_draft}
 use Rattle.lc_term.specs.Updates.{stored_all}
 use Rattle.lc_action.specs.ActionView.{first_of}
 use Rattle.lc_object.specs.View.{operation_of}

@@ -1,7 +1,7 @@
 use Rattle.std.proofs.Common.{◌≡◌, ◌≤◌, true, false, Ok, Err, [], refl, ap, sym, subst, ◌∙◌}
 use Rattle.std.specs.List.{list_all}
 use Rattle.lc_base.specs.Limits.{argument_limit}
-use Rattle.lc_term.specs.Drafts.{written_in_draft, draft_columns}
+use Rattle.lc_ride.specs.Drafts.{written_in_draft, draft_columns}
 use Rattle.lc_term.specs.State.{variable_count}
 use Rattle.lc_seq.specs.Branches.{arity}
 use Rattle.lc_seq.specs.SpecView.{operations_of}

@@ -26,7 +26,7 @@ returns-in_err-plan c =
 pub returns-in_err-turns : goal.returns-in_err-turns
 returns-in_err-turns c =
     let f = found_of c.args.command.now in
-    let given = turns_found f c.number_given-seed.result (path_in c.get_str-seeds.result) None c.number_given-seed.ensures c.get_str-seeds.ensures c.in_err-turns.ensures in
+    let given = turns_found f c.number_given-seed.result (path_in c.get_str-seeds.result) c.is_set-trace.result None c.number_given-seed.ensures c.get_str-seeds.ensures c.is_set-trace.ensures c.in_err-turns.ensures in
     rw c.from_residual-in_err-turns.ensures
     (running_found f (Some c.in_ok-development.development.now) (Some c.in_ok-certificate.certificate.now) (Some c.in_ok-plan.plan.now) None c.in_ok-development.ensures c.in_ok-certificate.ensures
     c.in_ok-plan.ensures given)
@@ -34,6 +34,6 @@ returns-in_err-turns c =
 pub returns : goal.returns
 returns c =
     let f = found_of c.args.command.now in
-    let given = turns_found f c.number_given-seed.result (path_in c.get_str-seeds.result) (Some c.in_ok-turns.turns) c.number_given-seed.ensures c.get_str-seeds.ensures c.in_ok-turns.ensures in
+    let given = turns_found f c.number_given-seed.result (path_in c.get_str-seeds.result) c.is_set-trace.result (Some c.in_ok-turns.turns) c.number_given-seed.ensures c.get_str-seeds.ensures c.is_set-trace.ensures c.in_ok-turns.ensures in
     running_found f (Some c.in_ok-development.development.now) (Some c.in_ok-certificate.certificate.now) (Some c.in_ok-plan.plan.now) (Some c.in_ok-turns.turns) c.in_ok-development.ensures
     c.in_ok-certificate.ensures c.in_ok-plan.ensures given

@@ -1,0 +1,4 @@
+mod Changing
+mod Tracing
+mod Replaying
+mod Joined

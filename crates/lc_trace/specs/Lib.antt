@@ -1,0 +1,4 @@
+pub mod Changes
+pub mod Replays
+pub mod Lines
+pub mod Traces
