@@ -1,5 +1,5 @@
 -- How often clients came up, and the numbers of their calls.
-use Rattle.std.specs.Prelude.{◌≡◌, ℕ, suc, ◌<◌, ◌==◌, ◌&&◌, nat_lt, nat_le, cond, Bool, false, List, [], ◌∷◌, ◌++◌, Option, Some, None, is_some, length, map, unwrap_or, IfSome, All}
+use Rattle.std.specs.Prelude.{◌≡◌, ℕ, suc, ◌<◌, ◌==◌, ◌&&◌, nat_lt, nat_le, cond, Bool, false, List, [], ◌∷◌, ◌++◌, Option, Some, None, is_some, map, unwrap_or, IfSome, All}
 use Rattle.std.specs.Map.{lookup}
 use Rattle.std.specs.Option.{option_map_or}
 use Rattle.lc_history.specs.History.{Event, Called, Replied, Entry, count, is_call, is_return, is_of}

@@ -1,5 +1,5 @@
 -- Stretches of events round a mark, and what is drawn of a history in one.
-use Rattle.std.specs.Prelude.{◌≡◌, ℕ, zero, suc, ◌+◌, ◌-◌, min, Bool, false, cond, ◌&&◌, nat_lt, nat_le, List, [], ◌∷◌, ◌++◌, Option, Some, None, length, option_and_then, take, slice_get}
+use Rattle.std.specs.Prelude.{ℕ, zero, suc, ◌+◌, ◌-◌, min, Bool, false, cond, ◌&&◌, nat_lt, nat_le, List, [], ◌∷◌, ◌++◌, Option, Some, None, length, option_and_then, take, slice_get}
 use Rattle.std.specs.Option.{option_map_or}
 use Rattle.lc_history.specs.History.{Event, Called, Replied, Entry, count, is_call, is_return, is_of}
 use Rattle.lc_draw.specs.Drawings.{Draws, event_in, has_call, marked}

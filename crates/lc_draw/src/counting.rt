@@ -45,10 +45,7 @@ pub(crate) fn next_call(
 }
 
 /// Notes that a call of a client returned, if the event says so.
-pub(crate) fn note_return(
-    turns: &mut IndexMap<u32, u64>,
-    event: &Event,
-) -> Result<(), OutOfMemory>
+pub(crate) fn note_return(turns: &mut IndexMap<u32, u64>, event: &Event) -> Result<(), OutOfMemory>
     requires { turns_of turns.old.entries (client_of (event_of event.now)) + 1 < 2 ^ 64 }
     ensures { OnOk result ((c : ℕ) → turns_of turns.new.entries c ≡ cond (is_return c (event_of event.now)) (suc (turns_of turns.old.entries c)) (turns_of turns.old.entries c)) }
 {

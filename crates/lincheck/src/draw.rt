@@ -137,9 +137,7 @@ fn is_traced(shown: Shown, bytes: &[u8]) -> bool
     ensures { result ≡ is_traced shown bytes.now }
 {
     match shown {
-        Shown::Page => {
-            bytes.starts_with(b"linearizable ") && bytes.len() as u64 <= FILE_LIMIT
-        }
+        Shown::Page => { bytes.starts_with(b"linearizable ") && bytes.len() as u64 <= FILE_LIMIT }
         Shown::Whole | Shown::Around(_, _) => false,
     }
 }

@@ -415,7 +415,9 @@ fn no_point_told(
 
 /// What is said if what is near an entry is to be drawn, and there is none at its place.
 fn no_mark_told(alloc: Global, place: u64) -> Result<Option<Vec<u8>>, OutOfMemory> {
-    let text = format!(in alloc; "lincheck: the order has no entry with a call at place {place}\n")?;
+    let text = format!(in alloc;
+        "lincheck: the order has no entry with a call at place {place}\n"
+    )?;
     Ok(Some(text.into_bytes()))
 }
 

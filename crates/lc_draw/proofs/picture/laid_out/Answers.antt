@@ -1,4 +1,4 @@
-use Rattle.std.proofs.Common.{◌≡◌, ◌∙◌, ◌<◌, ℕ, Bool, Option, List, [], length, All, ap, sym, subst, vec_len, true, arith}
+use Rattle.std.proofs.Common.{◌≡◌, ◌∙◌, ◌<◌, ℕ, Bool, Option, List, [], length, All, ap, sym, subst, vec_len, arith}
 use Rattle.std.specs.Prelude.{IfSome}
 use Rattle.lc_history.specs.Histories.{events_in}
 use Rattle.lc_history.specs.History.{count}

@@ -1,4 +1,4 @@
-use Rattle.std.proofs.Common.{◌≡◌, ◌∙◌, ◌∷◌, [], List, length, map, option_map, string_bytes, ap, vec_len, arith}
+use Rattle.std.proofs.Common.{◌≡◌, ◌∙◌, List, length, map, option_map, string_bytes, ap, arith}
 use Rattle.lc_history.specs.History.{count}
 use Rattle.lc_draw.specs.Drawings.{Picture}
 use Rattle.lc_draw.specs.Shapes as S

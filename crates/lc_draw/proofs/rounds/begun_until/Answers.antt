@@ -1,4 +1,4 @@
-use Rattle.std.proofs.Common.{◌≡◌, ◌∙◌, ◌+◌, ap, arith, false, sym, true}
+use Rattle.std.proofs.Common.{◌≡◌, ◌∙◌, ◌+◌, arith, false, sym, true}
 use Rattle.lc_history.specs.History.{is_call}
 use Rattle.lc_history.specs.View.{event_of, events_of}
 use Rattle.lc_history.specs.WellFormed.{client_of}

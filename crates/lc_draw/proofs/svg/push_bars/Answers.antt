@@ -1,4 +1,4 @@
-use Rattle.std.proofs.Common.{◌≡◌, ◌+◌, ◌++◌, ◌∷◌, ◌∙◌, ◌<◌, [], String, arith, false, length, refl, string_bytes, subst, sym, true}
+use Rattle.std.proofs.Common.{◌++◌, ◌∷◌, ◌∙◌, ◌<◌, [], String, arith, false, length, refl, string_bytes, subst, sym, true}
 use Rattle.std.proofs.lemmas.List.{length_push}
 use Rattle.std.specs.List.{flat_map}
 use Rattle.std.specs.declared.alloc.Global.{Global}
@@ -28,8 +28,8 @@ loop-number-preserved c =
                 (one_written bar_elements old.0 bar.0 before (string_bytes c.loop-number.out) (string_bytes w.push_bar.new.out) old.2 bar.1),
           )
       | else-is_held w ↦ (
-            old.0,
-            held-next held i false (length old.0) (length old.0) fits (sym w.if-is_held.false ∙ c.is_held.ensures) refl old.1,
-            subst (λ (out : String Global). HasWritten (flat_map bar_elements old.0) before (string_bytes out)) (sym w.out-is) old.2,
-          )
+        old.0,
+        held-next held i false (length old.0) (length old.0) fits (sym w.if-is_held.false ∙ c.is_held.ensures) refl old.1,
+        subst (λ (out : String Global). HasWritten (flat_map bar_elements old.0) before (string_bytes out)) (sym w.out-is) old.2,
+      )
     ]
