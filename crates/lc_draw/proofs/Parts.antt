@@ -3,17 +3,10 @@ use Rattle.std.proofs.Common.{◌≡◌, ℕ, ◌+◌, Bool, List, [], Option, S
 use Rattle.std.specs.Prelude.{◌-◌}
 use Rattle.lc_history.specs.History.{Event, Entry, count}
 use Rattle.lc_history.specs.WellFormed.{begins}
-use Rattle.lc_draw.specs.Counting.{AreTurns}
 use Rattle.lc_draw.specs.Drawings.{IsDrawing, event_in, has_call, marked}
 use Rattle.lc_draw.specs.Stretches.{DrawsRound, IsPart, count_such, is_within}
 use Rattle.lc_draw.proofs.Drawn.{draws_so}
 use Rattle.lc_draw.proofs.Stretching.{count-all, within-all, within-end}
-
--- turns in the same stretch
-pub turns-so : (from until f u : ℕ) (es events : List Event) (begun returned : List (ℕ × ℕ)) → f ≡ from → u ≡ until → es ≡ events → AreTurns (take until es) (take from es) begun returned → AreTurns (take u events) (take f events) begun returned
-turns-so from until f u es events begun returned at end same are =
-    subst (λ l. AreTurns (take u l) (take f l) begun returned) same
-    (subst (λ k. AreTurns (take k es) (take f es) begun returned) (sym end) (subst (λ k. AreTurns (take until es) (take k es) begun returned) (sym at) are))
 
 -- the part in the same stretch
 part-so : (events : List Event) (order : List Entry) (event : Option ℕ) (text : List ℕ) (f g : ℕ → ℕ → Bool) → f ≡ g → (from until : ℕ) → is_within from until events ≡ f → IsPart from until events order event text → (from' until' : ℕ)
@@ -29,10 +22,6 @@ all-drawn events order event text from until at end draws =
     let whole = subst (λ k. IsPart 0 k events order event text) end (subst (λ k. IsPart k until events order event text) at draws) in
     draws_so (count_such (is_within 0 (length events) events) events) (count begins events) (marked (is_within 0 (length events) events) [] 0 order) (marked (has_call events) [] 0 order) (event_in events event) (event_in events event) text
     (count-all events) (ap (λ test. marked test [] 0 order) (within-all events)) refl whole
-
--- nothing is drawn where there is no mark
-pub none-round : (events : List Event) (order : List Entry) (width : ℕ) (mark : Option ℕ) → None ≡ mark → DrawsRound events order width mark None
-none-round events order width mark is = subst (λ m. DrawsRound events order width m None) is tt
 
 -- and the part round one where there is
 pub some-round : {X : Type 0} (f : X → Event) (xs : List X) (events : List Event) (order : List Entry) (width at from until : ℕ) (text : List ℕ) (mark : Option ℕ) → map f xs ≡ events → Some at ≡ mark → from ≡ at - width

@@ -1,5 +1,5 @@
 -- Calls in stretches of events, and how many events are before a mark.
-use Rattle.std.proofs.Common.{◌≡◌, ℕ, zero, suc, ◌+◌, ◌<◌, ◌≤◌, ◌^◌, ◌==◌, Bool, true, false, cond, ◌&&◌, not, nat_lt, nat_le, List, [], ◌∷◌, ◌++◌, Option, Some, None, map, length, take, drop, get_or, refl, sym, ap, ap₂, ◌∙◌, append_assoc, append-nil, arith}
+use Rattle.std.proofs.Common.{◌≡◌, ℕ, zero, suc, ◌+◌, ◌<◌, ◌≤◌, ◌^◌, ◌==◌, Bool, true, false, cond, ◌&&◌, nat_lt, nat_le, List, [], ◌∷◌, ◌++◌, Option, Some, None, map, length, take, drop, get_or, refl, sym, ap, ap₂, ◌∙◌, append_assoc, append-nil, arith}
 use Rattle.std.specs.Prelude.{min, option_and_then, slice_get}
 use Rattle.std.specs.Option.{option_map_or}
 use Rattle.std.proofs.lemmas.Bool.Decides.{nat_tests}
@@ -9,7 +9,7 @@ use Rattle.core.proofs.slice.Prefixes.{take-map}
 use Rattle.lc_lemmas.proofs.Lists.{seen_at}
 use Rattle.lc_lemmas.proofs.Numbers.{flipped_test}
 use Rattle.lc_history.specs.History.{Event, Called, Replied, Entry, count, is_call, is_return, is_of}
-use Rattle.lc_history.specs.WellFormed.{begins, client_of}
+use Rattle.lc_history.specs.WellFormed.{begins}
 use Rattle.lc_draw.specs.Counting.{AreTurns, begun_such, call_begun, has_turn, is_between, turns_of}
 use Rattle.lc_draw.specs.Drawings.{has_call}
 use Rattle.lc_draw.specs.Stretches.{begins_such, begins_such_at, count_such, events_before, events_to_mark, has_entry, is_open_at, is_within, mark_at, such_calls, up_to_last}
@@ -38,22 +38,6 @@ counts-all f t xs i g over so c = so c ∙ ap (λ ys. count (t c) (map f ys)) (t
     took [] (suc i) over = refl
     took (x ∷ xs) zero over = absurd (omega (arith, over))
     took (x ∷ xs) (suc i) over = ap (λ l. x ∷ l) (took xs i (omega (arith, over)))
-
--- ---- events
-
--- a call is noted
-pub call-noted : (e : Event) (g : ℕ → ℕ) → begins e ≡ true → call_begun g e ≡ Some (client_of e, g (client_of e))
-call-noted (Called c call) g is = refl
-call-noted (Replied c reply) g is = absurd cc
-
-pub return-noted : (e : Event) (g : ℕ → ℕ) → begins e ≡ false → call_begun g e ≡ None
-return-noted (Called c call) g is = absurd cc
-return-noted (Replied c reply) g is = refl
-
--- whether it is a return of a client
-pub is-return : (e : Event) (c : ℕ) → is_return c e ≡ not (begins e) && (client_of e == c)
-is-return (Called d call) c = refl
-is-return (Replied d reply) c = refl
 
 -- ---- which calls pass
 

@@ -95,7 +95,7 @@ abbrev both_passed : Bool → Bool → Bool
 both_passed t u = ((((t && true) && true) && true) && ((u && true) && true)) && true
 
 abbrev both_passed_too : Bool → Bool → Bool
-both_passed_too t u = ((((t && true) && true) && (((u && true) && true) && true)) && true) && true
+both_passed_too t u = ((((t && true) && true) && ((((u && true) && true) && true) && true)) && true) && true
 
 -- ---- the words of a task
 
