@@ -1,4 +1,6 @@
 mod Plainness
 mod Written
 mod Turning
+mod Stretching
 mod Drawn
+mod Parts

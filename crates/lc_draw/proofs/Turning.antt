@@ -10,8 +10,8 @@ use Rattle.lc_lemmas.proofs.Numbers.{swapped, flipped_test}
 use Rattle.lc_seq.specs.Sequential.{Call}
 use Rattle.lc_history.specs.History.{Event, Called, Replied, Entry, count, is_call, is_of}
 use Rattle.lc_history.specs.WellFormed.{begins}
-use Rattle.lc_draw.specs.Counting.{AreNumbers, IsUpTo, have_calls, number_at, numbered_places, numbers_for, place_at, turns_of}
-use Rattle.lc_draw.specs.Drawings.{has_call, marked}
+use Rattle.lc_draw.specs.Counting.{AreNumbers, IsUpTo, have_calls, number_at, number_such, numbered_places, numbers_for, place_at, turns_of}
+use Rattle.lc_draw.specs.Drawings.{marked}
 
 -- one turn more of a client
 pub one_turn : (old new : List (ℕ × ℕ)) (client turn : ℕ) → turn ≡ turns_of old client → ((c : ℕ) → lookup (λ key. c == key) new ≡ cond (client == c) (Some (turn + 1)) (lookup (λ key. c == key) old)) → (c : ℕ)
@@ -28,7 +28,7 @@ one_turn old new client turn is updates c = ap (λ o. unwrap_or o 0) (updates c)
 
 -- ---- events
 
-count-last : {A : Type 0} (t : A → Bool) (xs : List A) (x : A) (b : Bool) → t x ≡ b → count t (xs ++ x ∷ []) ≡ cond b (suc (count t xs)) (count t xs)
+pub count-last : {A : Type 0} (t : A → Bool) (xs : List A) (x : A) (b : Bool) → t x ≡ b → count t (xs ++ x ∷ []) ≡ cond b (suc (count t xs)) (count t xs)
 count-last t [] x b e = ap (λ c. cond c 1 0) e
 count-last t (y ∷ ys) x b e = ap (λ n. cond (t y) (suc n) n) (count-last t ys x b e) ∙ moved (t y) b (count t ys)
   where
@@ -138,13 +138,13 @@ entries-up f xs i x turns turns' lt is more seen c = more c ∙ (by (c == (f x).
     by b e = ap₂ (λ t k. cond t (suc k) k) e (seen c) ∙ sym (count-last (is_of c) (map f (take i xs)) (f x) b (flipped_test c (f x).client b e))
 
 -- the numbers up to this entry, with those of the later entries, are all
-pub numbers-more : {X : Type 0} (f : X → Entry) (ns : List ((ℕ × ℕ) × ℕ)) (order : List X) (i : ℕ) (x : X) (xs xs' all : List (Option ℕ)) (turn : ℕ) (n : Option ℕ) → i < length order → x ≡ get_or order i x
-    → turn ≡ count (is_of (f x).client) (map f (take i order)) → n ≡ number_at ns (f x).client turn → xs' ≡ xs ++ n ∷ []
-    → xs ++ numbers_for ns (map f (take i order)) (map f (drop i order)) ≡ all → xs' ++ numbers_for ns (map f (take (i + 1) order)) (map f (drop (i + 1) order)) ≡ all
-numbers-more f ns order i x xs xs' all turn n lt is at there push h =
-    ap₂ (λ l b. l ++ numbers_for ns b rest) push took
-    ∙ (append_assoc xs (n ∷ []) (numbers_for ns (before ++ f x ∷ []) rest)
-    ∙ (ap (λ y. xs ++ y ∷ numbers_for ns (before ++ f x ∷ []) rest) (there ∙ ap (number_at ns (f x).client) at) ∙ (ap (λ l. xs ++ numbers_for ns before l) (sym left) ∙ h)))
+pub numbers-more : {X : Type 0} (f : X → Entry) (test : ℕ → ℕ → Bool) (ns : List ((ℕ × ℕ) × ℕ)) (order : List X) (i : ℕ) (x : X) (xs xs' all : List (Option ℕ)) (turn : ℕ) (n : Option ℕ) → i < length order → x ≡ get_or order i x
+    → turn ≡ count (is_of (f x).client) (map f (take i order)) → n ≡ number_such test ns (f x).client turn → xs' ≡ xs ++ n ∷ []
+    → xs ++ numbers_for test ns (map f (take i order)) (map f (drop i order)) ≡ all → xs' ++ numbers_for test ns (map f (take (i + 1) order)) (map f (drop (i + 1) order)) ≡ all
+numbers-more f test ns order i x xs xs' all turn n lt is at there push h =
+    ap₂ (λ l b. l ++ numbers_for test ns b rest) push took
+    ∙ (append_assoc xs (n ∷ []) (numbers_for test ns (before ++ f x ∷ []) rest)
+    ∙ (ap (λ y. xs ++ y ∷ numbers_for test ns (before ++ f x ∷ []) rest) (there ∙ ap (number_such test ns (f x).client) at) ∙ (ap (λ l. xs ++ numbers_for test ns before l) (sym left) ∙ h)))
   where
     before : List Entry
     before = map f (take i order)
@@ -159,8 +159,9 @@ numbers-more f ns order i x xs xs' all turn n lt is at there push h =
     left = at_drop_more (map f) order i x lt ∙ ap (λ y. f y ∷ rest) (sym is)
 
 -- no entry is left
-pub numbers-done : {X : Type 0} (f : X → Entry) (ns : List ((ℕ × ℕ) × ℕ)) (order : List X) (i : ℕ) (xs all : List (Option ℕ)) → length order ≤ i → xs ++ numbers_for ns (map f (take i order)) (map f (drop i order)) ≡ all → xs ≡ all
-numbers-done f ns order i xs all over h = sym (append-nil xs) ∙ (ap (λ l. xs ++ numbers_for ns (map f (take i order)) (map f l)) (sym (drop_all i order over)) ∙ h)
+pub numbers-done : {X : Type 0} (f : X → Entry) (test : ℕ → ℕ → Bool) (ns : List ((ℕ × ℕ) × ℕ)) (order : List X) (i : ℕ) (xs all : List (Option ℕ)) → length order ≤ i
+    → xs ++ numbers_for test ns (map f (take i order)) (map f (drop i order)) ≡ all → xs ≡ all
+numbers-done f test ns order i xs all over h = sym (append-nil xs) ∙ (ap (λ l. xs ++ numbers_for test ns (map f (take i order)) (map f l)) (sym (drop_all i order over)) ∙ h)
 
 if_some : {A : Type 0} (P : A → Type 0) (o : Option A) → ((x : A) → o ≡ Some x → P x) → IfSome o P
 if_some P None f = tt
@@ -170,33 +171,45 @@ all-cons : {A : Type 0} (P : A → Type 0) (x : A) (xs : List A) → P x → All
 all-cons P x xs h all zero d below = h
 all-cons P x xs h all (suc k) d below = all k d (omega (arith, below))
 
-which : (events : List Event) (before es : List Entry) (n : ℕ) (turns : List (ℕ × ℕ)) (numbers : List ((ℕ × ℕ) × ℕ)) → IsUpTo events n turns numbers → map is_some (numbers_for numbers before es) ≡ have_calls events before es
-which events before [] n turns numbers up = refl
-which events before (e ∷ es) n turns numbers up = ap₂ ◌∷◌ (up.numbered e.client (count (is_of e.client) before)) (which events (before ++ e ∷ []) es n turns numbers up)
+-- a number that passes is there
+such-some : (b : Bool) (n : Option ℕ) (has : Bool) → is_some n ≡ has → (b ≡ true → has ≡ true) → is_some (cond b n None) ≡ b
+such-some true n has is there = is ∙ there refl
+such-some false n has is there = refl
 
-within : (events : List Event) (before es : List Entry) (n : ℕ) (turns : List (ℕ × ℕ)) (numbers : List ((ℕ × ℕ) × ℕ)) → IsUpTo events n turns numbers → All (λ number. IfSome number (λ k. k < n)) (numbers_for numbers before es)
-within events before [] n turns numbers up = λ k d below. absurd (omega (arith, below))
-within events before (e ∷ es) n turns numbers up =
-    all-cons (λ number. IfSome number (λ k. k < n)) (number_at numbers e.client (count (is_of e.client) before)) (numbers_for numbers (before ++ e ∷ []) es)
-    (if_some (λ k. k < n) (number_at numbers e.client (count (is_of e.client) before)) (λ k is. up.below e.client (count (is_of e.client) before) k is))
-    (within events (before ++ e ∷ []) es n turns numbers up)
+such-number : (b : Bool) (n : Option ℕ) (k : ℕ) → cond b n None ≡ Some k → n ≡ Some k
+such-number true n k is = is
+such-number false n k is = absurd cc
 
-pub numbers-are : (events : List Event) (order : List Entry) (n : ℕ) (turns : List (ℕ × ℕ)) (numbers : List ((ℕ × ℕ) × ℕ)) → IsUpTo events n turns numbers → AreNumbers events order n (numbers_for numbers [] order)
-numbers-are events order n turns numbers up = record { which = which events [] order n turns numbers up; below = within events [] order n turns numbers up }
+module _ (test : ℕ → ℕ → Bool) (events : List Event) (n : ℕ) (turns : List (ℕ × ℕ)) (numbers : List ((ℕ × ℕ) × ℕ)) (there : (c t : ℕ) → test c t ≡ true → nat_lt t (count (is_call c) events) ≡ true) (up : IsUpTo events n turns numbers) where
+  which : (before es : List Entry) → map is_some (numbers_for test numbers before es) ≡ have_calls test before es
+  which before [] = refl
+  which before (e ∷ es) =
+      let t = count (is_of e.client) before in
+      ap₂ ◌∷◌ (such-some (test e.client t) (number_at numbers e.client t) (nat_lt t (count (is_call e.client) events)) (up.numbered e.client t) (there e.client t)) (which (before ++ e ∷ []) es)
 
--- the places of marks are those of the entries that have calls
-pub places-are : (events : List Event) (before es : List Entry) (k : ℕ) (ns : List (Option ℕ)) → map is_some ns ≡ have_calls events before es → numbered_places k ns ≡ marked events before k es
-places-are events before [] k [] same = refl
-places-are events before (e ∷ es) k [] same = absurd cc
-places-are events before [] k (n ∷ ns) same = absurd cc
-places-are events before (e ∷ es) k (None ∷ ns) same =
-    let head : false ≡ has_call events before e = cc in
-    let rest : map is_some ns ≡ have_calls events (before ++ e ∷ []) es = cc in
-    places-are events (before ++ e ∷ []) es (suc k) ns rest ∙ ap (λ b. cond b (k ∷ marked events (before ++ e ∷ []) (suc k) es) (marked events (before ++ e ∷ []) (suc k) es)) head
-places-are events before (e ∷ es) k (Some n ∷ ns) same =
-    let head : true ≡ has_call events before e = cc in
-    let rest : map is_some ns ≡ have_calls events (before ++ e ∷ []) es = cc in
-    ap (λ l. k ∷ l) (places-are events (before ++ e ∷ []) es (suc k) ns rest) ∙ ap (λ b. cond b (k ∷ marked events (before ++ e ∷ []) (suc k) es) (marked events (before ++ e ∷ []) (suc k) es)) head
+  within : (before es : List Entry) → All (λ number. IfSome number (λ k. k < n)) (numbers_for test numbers before es)
+  within before [] = λ k d below. absurd (omega (arith, below))
+  within before (e ∷ es) =
+      let t = count (is_of e.client) before in
+      all-cons (λ number. IfSome number (λ k. k < n)) (number_such test numbers e.client t) (numbers_for test numbers (before ++ e ∷ []) es)
+      (if_some (λ k. k < n) (number_such test numbers e.client t) (λ k is. up.below e.client t k (such-number (test e.client t) (number_at numbers e.client t) k is))) (within (before ++ e ∷ []) es)
+
+  pub numbers-are : (order : List Entry) → AreNumbers test order n (numbers_for test numbers [] order)
+  numbers-are order = record { which = which [] order; below = within [] order }
+
+-- the places of marks are those of the entries that have calls which pass
+pub places-are : (test : ℕ → ℕ → Bool) (before es : List Entry) (k : ℕ) (ns : List (Option ℕ)) → map is_some ns ≡ have_calls test before es → numbered_places k ns ≡ marked test before k es
+places-are test before [] k [] same = refl
+places-are test before (e ∷ es) k [] same = absurd cc
+places-are test before [] k (n ∷ ns) same = absurd cc
+places-are test before (e ∷ es) k (None ∷ ns) same =
+    let head : false ≡ test e.client (count (is_of e.client) before) = cc in
+    let rest : map is_some ns ≡ have_calls test (before ++ e ∷ []) es = cc in
+    places-are test (before ++ e ∷ []) es (suc k) ns rest ∙ ap (λ b. cond b (k ∷ marked test (before ++ e ∷ []) (suc k) es) (marked test (before ++ e ∷ []) (suc k) es)) head
+places-are test before (e ∷ es) k (Some n ∷ ns) same =
+    let head : true ≡ test e.client (count (is_of e.client) before) = cc in
+    let rest : map is_some ns ≡ have_calls test (before ++ e ∷ []) es = cc in
+    ap (λ l. k ∷ l) (places-are test (before ++ e ∷ []) es (suc k) ns rest) ∙ ap (λ b. cond b (k ∷ marked test (before ++ e ∷ []) (suc k) es) (marked test (before ++ e ∷ []) (suc k) es)) head
 
 -- the places up to this one, with the later ones, are all
 pub places-next : (k : ℕ) (ns : List (Option ℕ)) (n d : Option ℕ) (before after all : List ℕ) → k < length ns → n ≡ get_or ns k d → after ≡ before ++ place_at k n → before ++ numbered_places k (drop k ns) ≡ all

@@ -35,14 +35,15 @@ opening_text width height =
 abbrev pub picture_text : Picture → List ℕ
 picture_text p = opening_text p.width p.height ++ elements_text (elements_of p) ++ codes "</svg>\n"
 
--- the client of an entry, after these entries, made so many calls that the entry has one
-abbrev pub has_call : List Event → List Entry → Entry → Bool
-has_call events before e = nat_lt (count (is_of e.client) before) (count (is_call e.client) events)
+-- the client made so many calls that it has this one, counted from 0
+abbrev pub has_call : List Event → (client turn : ℕ) → Bool
+has_call events c t = nat_lt t (count (is_call c) events)
 
--- the places of the entries that have calls, if that many are before these
-abbrev pub marked : List Event → List Entry → ℕ → List Entry → List ℕ
-marked events before k [] = []
-marked events before k (e ∷ es) = cond (has_call events before e) (k ∷ marked events (before ++ e ∷ []) (suc k) es) (marked events (before ++ e ∷ []) (suc k) es)
+-- the places of the entries whose calls pass the test, by client and turn, if that many are before these
+abbrev pub marked : (ℕ → ℕ → Bool) → List Entry → ℕ → List Entry → List ℕ
+marked test before k [] = []
+marked test before k (e ∷ es) =
+    cond (test e.client (count (is_of e.client) before)) (k ∷ marked test (before ++ e ∷ []) (suc k) es) (marked test (before ++ e ∷ []) (suc k) es)
 
 -- the number of an event, from 1, if the history has it
 abbrev pub event_in : List Event → Option ℕ → Option ℕ
@@ -61,4 +62,4 @@ pub record Draws (bars : ℕ) (places : List ℕ) (event : Option ℕ) (text : L
 -- The text draws a bar for each call of the history, a mark with its place for each entry of the order that has a call, and a line
 -- behind the event of this number, if the history has it
 abbrev pub IsDrawing : List Event → List Entry → Option ℕ → List ℕ → Type 0
-IsDrawing events order event text = Draws (count begins events) (marked events [] 0 order) (event_in events event) text
+IsDrawing events order event text = Draws (count begins events) (marked (has_call events) [] 0 order) (event_in events event) text

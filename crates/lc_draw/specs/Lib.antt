@@ -1,4 +1,5 @@
 pub mod Elements
 pub mod Shapes
 pub mod Drawings
+pub mod Stretches
 pub mod Counting

@@ -1,9 +1,10 @@
 //! The calls of a history, and the entries of an order that are theirs.
 ghost use Rattle.std.specs.Prelude.{◌≡◌, [], IfOk, vec_len};
 ghost use Rattle.lc_history.specs.View.{events_of, entries_view};
-ghost use Rattle.lc_draw.specs.Counting.{IsUpTo, numbers_for};
+ghost use Rattle.lc_draw.specs.Counting.{IsUpTo, is_between, number_such, numbers_for};
 
 use crate::counting::{next_turn, number_at, put_number, turns_of};
+use crate::stretches::Stretch;
 use indexmap::IndexMap;
 use lc_base::{OpId, OutOfMemory};
 use lc_history::{Done, Event};
@@ -17,6 +18,9 @@ pub(crate) struct Call<'a> {
     pub(crate) op: OpId,
     pub(crate) numbers: &'a [i64],
     pub(crate) reply: Option<&'a [i64]>,
+    /// At which place the events have its beginning, and its return, if it has returned.
+    pub(crate) begins: usize,
+    pub(crate) returns: Option<usize>,
     pub(crate) choice: Option<&'a Pick>,
     /// The place of its entry.
     pub(crate) place: Option<usize>,
@@ -75,6 +79,8 @@ impl<'a> Calls<'a> {
             op,
             numbers,
             reply: None,
+            begins: self.call_of_event.len(),
+            returns: None,
             choice: None,
             place: None,
         })?;
@@ -94,6 +100,7 @@ impl<'a> Calls<'a> {
         let number = number_at(&self.numbers, client, last).unwrap_or(self.calls.len());
         if let Some(call) = self.calls.get_mut(number) {
             call.reply = Some(numbers);
+            call.returns = Some(self.call_of_event.len());
         }
         self.call_of_event.push(number)?;
         Ok(())
@@ -127,19 +134,31 @@ pub(crate) fn calls_of(alloc: Global, events: &[Event]) -> Result<Calls<'_>, Out
     Ok(calls)
 }
 
-/// For each entry of an order its call, if its client has so many.
+/// The number of a client's call, if it lies in a stretch.
+fn number_held(calls: &Calls<'_>, stretch: &Stretch, client: u32, turn: u64) -> Option<usize>
+    ensures { result ≡ number_such (is_between stretch.now.begun.entries stretch.now.returned.entries) calls.now.numbers.entries client turn }
+{
+    if stretch.holds(client, turn) {
+        number_at(&calls.numbers, client, turn)
+    } else {
+        None
+    }
+}
+
+/// For each entry of an order its call, if it lies in a stretch.
 pub(crate) fn numbers_of(
     alloc: Global,
     calls: &Calls<'_>,
     order: &[Done<TextCall, Pick, Vec<i64>>],
+    stretch: &Stretch,
 ) -> Result<Vec<Option<usize>>, OutOfMemory>
-    ensures { IfOk result (λ numbers. numbers.items ≡ numbers_for calls.now.numbers.entries [] (entries_view order.now)) }
+    ensures { IfOk result (λ numbers. numbers.items ≡ numbers_for (is_between stretch.now.begun.entries stretch.now.returned.entries) calls.now.numbers.entries [] (entries_view order.now)) }
 {
     let mut seen = IndexMap::new(alloc);
     let mut numbers = Vec::new(alloc);
     for done in order {
         let turn = next_turn(&mut seen, done.client)?;
-        numbers.push(number_at(&calls.numbers, done.client, turn))?;
+        numbers.push(number_held(calls, stretch, done.client, turn))?;
     }
     Ok(numbers)
 }

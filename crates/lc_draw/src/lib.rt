@@ -5,7 +5,9 @@ mod calls;
 mod counting;
 mod picture;
 mod places;
+mod rounds;
+mod stretches;
 mod svg;
 mod texts;
 
-pub use picture::drawing;
+pub use picture::{drawing, drawing_round};

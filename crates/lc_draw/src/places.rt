@@ -1,5 +1,6 @@
 //! Where bars and marks are, from left to right.
-ghost use Rattle.std.specs.Prelude.{◌≡◌, ◌<◌, ◌++◌, All, IfOk, IfSome, OnOk, length, map, option_map, vec_len};
+ghost use Rattle.std.specs.Prelude.{◌≡◌, ◌<◌, ◌++◌, All, IfOk, IfSome, OnOk, false, length, map, option_map, slice_get, vec_len};
+ghost use Rattle.std.specs.Option.{option_map_or};
 ghost use Rattle.lc_history.specs.View.{events_of};
 ghost use Rattle.lc_draw.specs.Counting.{numbered_places, place_at};
 ghost use Rattle.lc_draw.specs.Drawings.{event_in};
@@ -32,7 +33,9 @@ pub(crate) struct Bar {
     /// How far to the right it begins and ends, in units of the drawing.
     pub(crate) begins: u64,
     pub(crate) ends: u64,
-    pub(crate) has_returned: bool,
+    /// At which place the events have its beginning, and its return, if it has returned.
+    pub(crate) begun_at: usize,
+    pub(crate) returned_at: Option<usize>,
     /// The place of its entry in the order, if it has one.
     pub(crate) place: Option<usize>,
 }
@@ -68,7 +71,8 @@ pub(crate) fn bars_of(
             text: call_text(alloc, operations, call)?,
             begins: 0,
             ends: 0,
-            has_returned: call.reply.is_some(),
+            begun_at: call.begins,
+            returned_at: call.returns,
             place: call.place,
         })?;
     }
@@ -94,14 +98,23 @@ fn put_event(bar: &mut Bar, behind: u64) -> u64 {
     bar.ends
 }
 
-/// Puts bars where their events are, in the order of the events, and returns where the drawing ends.
-pub(crate) fn put_bars(bars: &mut [Bar], bar_of_event: &[usize]) -> u64
+/// Whether the bar of a number is held.
+pub(crate) fn is_held(held: &[bool], number: usize) -> bool
+    ensures { result ≡ option_map_or (λ is. is) (slice_get held.now number) false }
+{
+    held.get(number).copied().unwrap_or(false)
+}
+
+/// Puts the bars that are held where their events are, in the order of the events, and returns where the drawing ends.
+pub(crate) fn put_bars(bars: &mut [Bar], bar_of_event: &[usize], held: &[bool]) -> u64
     ensures { length bars.new ≡ length bars.old }
 {
     let mut behind = 0;
     for number in bar_of_event {
-        if let Some(bar) = bars.get_mut(*number) {
-            behind = put_event(bar, behind);
+        if is_held(held, *number) {
+            if let Some(bar) = bars.get_mut(*number) {
+                behind = put_event(bar, behind);
+            }
         }
     }
     let mut last = behind.saturating_add(STEP);
@@ -109,7 +122,7 @@ pub(crate) fn put_bars(bars: &mut [Bar], bar_of_event: &[usize]) -> u64
         last = last.max(bar.ends);
     }
     for bar in &mut *bars {
-        if !bar.has_returned {
+        if bar.returned_at.is_none() {
             bar.ends = last;
         }
     }

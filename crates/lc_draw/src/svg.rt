@@ -1,13 +1,14 @@
 //! The elements of a drawing, as SVG text.
 ghost use Rattle.std.specs.Prelude.{◌≡◌, ◌++◌, ◌∷◌, [], ℕ, List, Option, Some, true, OnOk, codes, length, map, option_map, string_bytes};
 ghost use Rattle.std.specs.List.{flat_map};
+ghost use Rattle.lc_history.specs.History.{count};
 ghost use Rattle.lc_draw.specs.Drawings.{opening_text};
 ghost use Rattle.lc_draw.specs.Elements.{HasWritten, IsWellFormed, are_plain, element_text};
 ghost use Rattle.lc_draw.specs.Shapes as S;
 ghost use Rattle.lc_draw.specs.Shapes.{bar_elements, bar_label, bar_line, bar_path, caption_element, class_of, close_of, cut_elements, cut_label, cut_line, lane_elements, lane_line, lane_name, mark_elements, mark_line, mark_place, order_element, point_text, sheet_element, style_element};
 
 use crate::picture::{Judged, is_at_fault};
-use crate::places::{Bar, Cut, Mark};
+use crate::places::{Bar, Cut, Mark, is_held};
 use crate::texts::Plain;
 use indexmap::IndexMap;
 use lc_base::OutOfMemory;
@@ -242,7 +243,8 @@ fn push_bar(out: &mut String, bar: &Bar, is_at_fault: bool) -> Result<(), OutOfM
     let begins = across_of(bar.begins);
     let ends = across_of(bar.ends);
     let top = bar_top_of(bar.lane);
-    write_bar_line(out, is_at_fault, bar.has_returned, begins, ends, top)?;
+    let is_closed = bar.returned_at.is_some();
+    write_bar_line(out, is_at_fault, is_closed, begins, ends, top)?;
     write_bar_label(
         out,
         begins.saturating_add(6),
@@ -252,17 +254,21 @@ fn push_bar(out: &mut String, bar: &Bar, is_at_fault: bool) -> Result<(), OutOfM
     Ok(())
 }
 
-/// Writes bars. What is at fault is by where the fault is.
+/// Writes the bars that are held. What is at fault is by where the fault is.
 pub(crate) fn push_bars(
     out: &mut String,
     bars: &[Bar],
+    held: &[bool],
     judged: Judged,
-    from: u64,
+    from: usize,
 ) -> Result<(), OutOfMemory>
-    ensures { OnOk result ((bs : List S.Bar) × (length bs ≡ length bars.now) × HasWritten (flat_map bar_elements bs) (string_bytes out.old) (string_bytes out.new)) }
+    requires { length bars.now ≡ length held.now }
+    ensures { OnOk result ((bs : List S.Bar) × (length bs ≡ count (λ is. is) held.now) × HasWritten (flat_map bar_elements bs) (string_bytes out.old) (string_bytes out.new)) }
 {
-    for bar in bars {
-        push_bar(out, bar, is_at_fault(bar, judged, from))?;
+    for (number, bar) in bars.iter().enumerate() {
+        if is_held(held, number) {
+            push_bar(out, bar, is_at_fault(bar, judged, from))?;
+        }
     }
     Ok(())
 }

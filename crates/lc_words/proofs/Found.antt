@@ -12,9 +12,10 @@ use Rattle.lc_base.specs.NameText.{is_name}
 use Rattle.lc_base.specs.declared.name.Name.{Name}
 use Rattle.lc_lib_texts.specs.Names.{lib_named}
 use Rattle.lc_lib_texts.specs.declared.library.Lib.{Lib}
-use Rattle.lc_words.specs.Reading.{beginning_task, begun, drawing, drawing_task, is_set, library_task, listed, listing_task, number_given, one_file_task, ordering, ordering_task, proving_task, running_task, showing_task, text_for, turns_by, turns_given, two_file_task, carrying_task, completing_task}
+use Rattle.lc_words.specs.Reading.{beginning_task, begun, drawing_task, is_set, library_task, listed, listing_task, number_given, one_file_task, ordering, ordering_task, proving_task, running_task, showing_task, shown_by, shown_given, text_for, turns_by, turns_given, two_file_task, carrying_task, completing_task}
 use Rattle.lc_words.specs.Tasks.{BeginDevelopment, DrawHistory, FindOrder, MakeWhole, PrintLibrary, RunPlan, Task, is_development_name, proving, showing, carrying}
 use Rattle.lc_words.specs.declared.request.LibraryText.{LibraryText}
+use Rattle.lc_words.specs.declared.request.Shown.{Shown}
 use Rattle.lc_words.specs.declared.request.Turns.{Turns}
 
 -- the task of one path, and of two, if clap finds them
@@ -76,11 +77,16 @@ pub turns_found : (f : Found) (seed : Option ℕ) (seeds : Option Text) (trace :
 turns_found f seed seeds trace turns is_seed is_seeds is_trace is =
     is ∙ (ap₂ (λ x y. turns_by x y trace) is_seed (is_seeds ∙ first_value-rows f (codes "seeds")) ∙ ap (turns_by (number_given (codes "seed") (rows_of f)) (first_of (codes "seeds") (rows_of f))) is_trace)
 
--- a history is drawn as the flag says
-pub drawing_found : (f : Found) (development history : Text) (html : Bool) → Some development ≡ first_value f (codes "DEV") → Some history ≡ first_value f (codes "HISTORY")
-    → html ≡ is_set (codes "html") (rows_of f) → Some (DrawHistory development history html) ≡ drawing_task (rows_of f)
-drawing_found f development history html is is' set =
-    ap (λ x. Some (DrawHistory development history x)) set ∙ two_found (drawing (rows_of f)) (codes "HISTORY") f (Some development) (Some history) is is'
+-- the task of drawing a history, if clap finds its paths, and what is drawn of it
+pub drawing_found : (f : Found) (development history : Option Text) (shown : Option Shown) → development ≡ first_value f (codes "DEV") → history ≡ first_value f (codes "HISTORY") → shown ≡ shown_given (rows_of f)
+    → option_and_then (λ d. option_and_then (λ h. option_map (DrawHistory d h) shown) history) development ≡ drawing_task (rows_of f)
+drawing_found f development history shown is_development is_history is_shown =
+    ap₂ (λ x y. option_and_then (λ d. option_and_then (λ h. option_map (DrawHistory d h) shown) y) x) (is_development ∙ first_value-rows f (codes "DEV")) (is_history ∙ first_value-rows f (codes "HISTORY"))
+    ∙ ap (λ x. option_and_then (λ d. option_and_then (λ h. option_map (DrawHistory d h) x) (first_of (codes "HISTORY") (rows_of f))) (first_of (codes "DEV") (rows_of f))) is_shown
+
+pub shown_found : (f : Found) (html : Bool) (around width : Option ℕ) (shown : Option Shown) → html ≡ is_set (codes "html") (rows_of f) → around ≡ number_given (codes "around") (rows_of f)
+    → width ≡ number_given (codes "width") (rows_of f) → shown ≡ shown_by html around width → shown ≡ shown_given (rows_of f)
+shown_found f html around width shown is_html is_around is_width is = is ∙ (ap (λ h. shown_by h around width) is_html ∙ ap₂ (shown_by (is_set (codes "html") (rows_of f))) is_around is_width)
 
 -- a flag is set if its value is `true`
 pub flag_found : (f : Found) (name : Text) (value : Option Text) → value ≡ first_value f name → option_map_or (λ v. bytes_eq v (codes "true")) value false ≡ is_set name (rows_of f)

@@ -1,5 +1,5 @@
 -- The words of each task are read as that task, and nothing is wrong in them.
-use Rattle.std.proofs.Common.{◌≡◌, ℕ, ◌==◌, ◌&&◌, Bool, true, false, not, true≢false, codes, List, [], ◌∷◌, Option, Some, None, eqb-true, refl, sym, ◌∙◌, ap, subst}
+use Rattle.std.proofs.Common.{◌≡◌, ℕ, ◌==◌, ◌&&◌, Bool, true, false, not, true≢false, codes, List, [], ◌∷◌, Option, Some, None, eqb-true, refl, sym, ◌∙◌, ap, ap₂, subst}
 use Rattle.std.specs.Fmt.{decimal}
 use Rattle.std.specs.Prelude.{◌++◌, if◌then◌else◌, option_and_then, option_map}
 use Rattle.clap.specs.Words.{Text, built, is_simple, is_simple_and_free}
@@ -13,9 +13,10 @@ use Rattle.lc_lib_texts.specs.Names.{name_of}
 use Rattle.lc_lib_texts.specs.declared.library.Lib.{Lib}
 use Rattle.lc_lib_texts.specs.declared.library.Lib.TheVariants.{Counter, Stack, Lock, Snapshot, Combining, Rendezvous, Queue, PoolStack}
 use Rattle.lc_words.specs.Commands.{program_app}
-use Rattle.lc_words.specs.Reading.{AskFor, AskForReasons, checked, is_explained, task_in, turns_by}
+use Rattle.lc_words.specs.Reading.{AskFor, AskForReasons, checked, is_explained, shown_by, task_in, turns_by}
 use Rattle.lc_words.specs.Tasks.{HasPlainPaths, Task, CheckFormula, JudgeHistory, ShowDevelopment, ShowLines, ListConditions, ListChosen, ShowCondition, OfPoint, OfKind, OfBoth, ReadsFiles, CheckByWorkers, CheckCertificate, ProveDevelopment, ProveWithHints, DrawHistory, BeginDevelopment, FindOrder, MakeWhole, PrintLibrary, RunPlan, is_development_name, is_plain, range_text, words_for, CarryCertificate, CarryWithHints}
 use Rattle.lc_words.specs.declared.request.LibraryText.TheVariants.{Development, Certificate, Hints}
+use Rattle.lc_words.specs.declared.request.Shown.TheVariants.{Whole, Page, Around}
 use Rattle.lc_words.specs.declared.request.Turns.TheVariants.{Free, Drawn, DrawnEach, Traced}
 use Rattle.lc_words.proofs.Numbers.{number_back, numbers_are_plain}
 use Rattle.lc_words.proofs.Ranges.{range_back, ranges_are_plain}
@@ -89,6 +90,13 @@ passed t = ((t && true) && true) && true
 abbrev passed_too : Bool → Bool
 passed_too t = (((((t && true) && true) && true) && true) && true) && true
 
+-- and those of two numbers
+abbrev both_passed : Bool → Bool → Bool
+both_passed t u = ((((t && true) && true) && true) && ((u && true) && true)) && true
+
+abbrev both_passed_too : Bool → Bool → Bool
+both_passed_too t u = ((((t && true) && true) && ((((u && true) && true) && true) && true)) && true) && true
+
 -- ---- the words of a task
 
 abbrev explained_words : List ℕ → Task → List Text
@@ -133,8 +141,15 @@ words_ask_both name (RunPlan development certificate plan (Traced (Some seed))) 
     let read = ap (λ (s : Option ℕ). option_map (RunPlan development certificate plan) (turns_by s None true)) (number_back seed is.3) in
     asked_both name (codes "run") (plain development is.0 ∷ plain certificate is.1 ∷ plain plan is.2 ∷ known (codes "--trace") ∷ known (codes "--seed") ∷ plain (decimal seed) (numbers_are_plain seed is.3) ∷ []) _ refl
     (ap passed pass, read) (ap passed_too pass, read) refl
-words_ask_both name (DrawHistory development history false) is = asked_both name (codes "draw") (plain development is.0 ∷ plain history is.1 ∷ []) _ refl (refl, refl) (refl, refl) refl
-words_ask_both name (DrawHistory development history true) is = asked_both name (codes "draw") (plain development is.0 ∷ plain history is.1 ∷ known (codes "--html") ∷ []) _ refl (refl, refl) (refl, refl) refl
+words_ask_both name (DrawHistory development history Whole) is = asked_both name (codes "draw") (plain development is.0 ∷ plain history is.1 ∷ []) _ refl (refl, refl) (refl, refl) refl
+words_ask_both name (DrawHistory development history (Around place width)) is =
+    let pass = number_passes place is.2.0 in
+    let pass_too = number_passes width is.2.1 in
+    let read = ap₂ (λ (p w : Option ℕ). option_map (DrawHistory development history) (shown_by false p w)) (number_back place is.2.0) (number_back width is.2.1) in
+    asked_both name (codes "draw")
+    (plain development is.0 ∷ plain history is.1 ∷ known (codes "--around") ∷ plain (decimal place) (numbers_are_plain place is.2.0) ∷ known (codes "--width") ∷ plain (decimal width) (numbers_are_plain width is.2.1) ∷ []) _ refl
+    (ap₂ both_passed pass pass_too, read) (ap₂ both_passed_too pass pass_too, read) refl
+words_ask_both name (DrawHistory development history Page) is = asked_both name (codes "draw") (plain development is.0 ∷ plain history is.1 ∷ known (codes "--html") ∷ []) _ refl (refl, refl) (refl, refl) refl
 words_ask_both name (BeginDevelopment own) is =
     (asked name (codes "new") (plain own (named_is_plain own is) ∷ []) _ refl (refl, ap (λ b. if b then Some (BeginDevelopment own) else None) is), λ reads. absurd reads)
 words_ask_both name (PrintLibrary lib Development) is =

@@ -97,9 +97,13 @@ run_app = explained (with_rule run_seeds_app (flag_rule (codes "trace")))
 abbrev pub library_app : App
 library_app = with_rule (with_rule (with_rule (new_app (codes "library")) (object_rule (codes "NAME"))) (flag_rule (codes "certificate"))) (flag_rule (codes "hints"))
 
--- `draw DEV HISTORY [--html] [--quiet] [--explain]`
+-- `draw DEV HISTORY [--html]`
+abbrev pub draw_page_app : App
+draw_page_app = with_rule (with_rule (with_rule (new_app (codes "draw")) (file_rule (codes "DEV"))) (file_rule (codes "HISTORY"))) (flag_rule (codes "html"))
+
+-- `draw DEV HISTORY [--html] [--around PLACE] [--width N] [--quiet] [--explain]`
 abbrev pub draw_app : App
-draw_app = explained (with_rule (with_rule (with_rule (new_app (codes "draw")) (file_rule (codes "DEV"))) (file_rule (codes "HISTORY"))) (flag_rule (codes "html")))
+draw_app = explained (with_rule (with_rule draw_page_app (number_rule (codes "around"))) (number_rule (codes "width")))
 
 -- `new NAME`
 abbrev pub begin_app : App

@@ -14,6 +14,8 @@ use Rattle.lc_words.specs.Tasks.{BeginDevelopment, CheckByWorkers, CheckCertific
 use Rattle.lc_words.specs.declared.request.LibraryText.{LibraryText}
 use Rattle.lc_words.specs.declared.request.LibraryText.TheVariants.{Development, Certificate, Hints}
 use Rattle.lc_words.specs.declared.request.Request.{Request}
+use Rattle.lc_words.specs.declared.request.Shown.{Shown}
+use Rattle.lc_words.specs.declared.request.Shown.TheVariants.{Whole, Page, Around}
 use Rattle.lc_words.specs.declared.request.Turns.{Turns}
 use Rattle.lc_words.specs.declared.request.Turns.TheVariants.{Free, Drawn, DrawnEach, Traced}
 
@@ -142,13 +144,25 @@ running_task rows =
     option_and_then (λ development. option_and_then (λ certificate. option_and_then (λ plan. option_map (RunPlan development certificate plan) (turns_given rows)) (first_of (codes "PLAN") rows)) (first_of (codes "CERT") rows))
     (first_of (codes "DEV") rows)
 
--- the task of drawing a history by a development, as a page if these arguments set its flag
-abbrev pub drawing : List Row → List ℕ → List ℕ → Task
-drawing rows development history = DrawHistory development history (is_set (codes "html") rows)
+-- what is drawn of a history: all, as a picture or as a page, or what is near the entry at a place, within so many events, or 100; a page
+-- excludes a place, and there is no width without a place
+abbrev pub shown_by : (html : Bool) (around width : Option ℕ) → Option Shown
+shown_by false None None = Some Whole
+shown_by true None None = Some Page
+shown_by false (Some place) None = Some (Around place 100)
+shown_by false (Some place) (Some width) = Some (Around place width)
+shown_by true (Some place) width = None
+shown_by false None (Some width) = None
+shown_by true None (Some width) = None
+
+-- and so by these arguments
+abbrev pub shown_given : List Row → Option Shown
+shown_given rows = shown_by (is_set (codes "html") rows) (number_given (codes "around") rows) (number_given (codes "width") rows)
 
 -- the task of drawing the history that these arguments name
 abbrev pub drawing_task : List Row → Option Task
-drawing_task rows = two_file_task (drawing rows) (codes "HISTORY") rows
+drawing_task rows =
+    option_and_then (λ development. option_and_then (λ history. option_map (DrawHistory development history) (shown_given rows)) (first_of (codes "HISTORY") rows)) (first_of (codes "DEV") rows)
 
 -- the task of making a short development whole with these arguments
 abbrev pub completing_task : List Row → Option Task

@@ -15,6 +15,8 @@ use Rattle.lc_words.specs.declared.request.LibraryText.{LibraryText}
 use Rattle.lc_words.specs.declared.request.LibraryText.TheVariants.{Development, Certificate, Hints}
 use Rattle.lc_words.specs.declared.request.Request.{Request}
 use Rattle.lc_words.specs.declared.request.Request.TheVariants.{Formula, Judge, Show, Conditions, Check, Prove, Draw, New, Library, Carry, Run, Order, Complete}
+use Rattle.lc_words.specs.declared.request.Shown.{Shown}
+use Rattle.lc_words.specs.declared.request.Shown.TheVariants.{Whole, Page, Around}
 use Rattle.lc_words.specs.declared.request.Turns.{Turns}
 use Rattle.lc_words.specs.declared.request.Turns.TheVariants.{Free, Drawn, DrawnEach, Traced}
 
@@ -29,9 +31,10 @@ pub data Filter : Type 0 where
 -- one is shown by its number; that the certificate in one file is checked against the development in another, by itself or by a number of
 -- workers; that a certificate is found for the development in a file, without hints or with those in another; that a certificate is found
 -- for a new development, with the proofs of an old one, by its certificate, without hints or with those in a further file; that the
--- development in a file is run, which the certificate in another proves, by the plan in a third, in threads or with turns that are drawn, and each step told or not; that
--- the history in one file is drawn by the specification in another, as a picture or as a page; that a development with a name is begun; that a text of an object of the library is printed; that an
--- order is found that linearizes the history in one file by the specification in another, or a word says whether there is one, over as
+-- development in a file is run, which the certificate in another proves, by the plan in a third, in threads or with turns that are drawn, and each
+-- step told or not; that the history in one file is drawn by the specification in another, as a picture, as a page, or as a picture of what is
+-- near an entry of the order; that a development with a name is begun; that a text of an object of the library is printed; that an order is
+-- found that linearizes the history in one file by the specification in another, or a word says whether there is one, over as
 -- many nodes as a number says, if one is given; or that the short development in a file is made whole, in as many steps for a condition as a
 -- number says, if one is given
 pub data Task : Type 0 where
@@ -49,7 +52,7 @@ pub data Task : Type 0 where
   CarryCertificate : (old certificate new : List ℕ) → Task
   CarryWithHints : (old certificate new hints : List ℕ) → Task
   RunPlan : (development certificate plan : List ℕ) (turns : Turns) → Task
-  DrawHistory : (development history : List ℕ) (html : Bool) → Task
+  DrawHistory : (development history : List ℕ) (shown : Shown) → Task
   BeginDevelopment : (name : List ℕ) → Task
   PrintLibrary : (lib : Lib) (text : LibraryText) → Task
   FindOrder : (development history : List ℕ) (check : Bool) (budget : Option ℕ) → Task
@@ -101,7 +104,7 @@ task_of (Check development certificate workers all progress) = checking developm
 task_of (Prove development hints all progress) = proving development.now (path_in hints)
 task_of (Carry old certificate new hints progress) = carrying old.now certificate.now new.now (path_in hints)
 task_of (Run development certificate plan turns) = RunPlan development.now certificate.now plan.now turns
-task_of (Draw development history html) = DrawHistory development.now history.now html
+task_of (Draw development history shown) = DrawHistory development.now history.now shown
 task_of (New name) = BeginDevelopment name.now
 task_of (Library lib text) = PrintLibrary lib text
 task_of (Order development history check budget) = FindOrder development.now history.now check budget
@@ -156,10 +159,11 @@ turn_words (DrawnEach first end) = codes "--seeds" ∷ range_text first end ∷ 
 turn_words (Traced None) = codes "--trace" ∷ []
 turn_words (Traced (Some seed)) = codes "--trace" ∷ codes "--seed" ∷ decimal seed ∷ []
 
--- the option of a page
-abbrev pub page_words : (html : Bool) → List Text
-page_words false = []
-page_words true = codes "--html" ∷ []
+-- the options by which it is said what is drawn
+abbrev pub shown_words : Shown → List Text
+shown_words Whole = []
+shown_words Page = codes "--html" ∷ []
+shown_words (Around place width) = codes "--around" ∷ decimal place ∷ codes "--width" ∷ decimal width ∷ []
 
 -- the words that ask for a task, after the name of the program
 abbrev pub words_for : List ℕ → Task → List Text
@@ -177,7 +181,7 @@ words_for name (ProveWithHints development hints) = name ∷ codes "prove" ∷ d
 words_for name (CarryCertificate old certificate new) = name ∷ codes "carry" ∷ old ∷ certificate ∷ new ∷ []
 words_for name (CarryWithHints old certificate new hints) = name ∷ codes "carry" ∷ old ∷ certificate ∷ new ∷ codes "--hints" ∷ hints ∷ []
 words_for name (RunPlan development certificate plan turns) = name ∷ codes "run" ∷ development ∷ certificate ∷ plan ∷ turn_words turns
-words_for name (DrawHistory development history html) = name ∷ codes "draw" ∷ development ∷ history ∷ page_words html
+words_for name (DrawHistory development history shown) = name ∷ codes "draw" ∷ development ∷ history ∷ shown_words shown
 words_for name (BeginDevelopment own) = name ∷ codes "new" ∷ own ∷ []
 words_for name (PrintLibrary lib text) = library_words name (name_of lib) text
 words_for name (FindOrder development history check budget) = name ∷ codes "order" ∷ development ∷ history ∷ order_words check budget
@@ -197,6 +201,12 @@ AreSeeds (DrawnEach first end) = (first < 2 ^ 64) × (end < 2 ^ 64)
 AreSeeds (Traced None) = Unit {0}
 AreSeeds (Traced (Some seed)) = seed < 2 ^ 64
 
+-- the place and the width have 64 bits
+abbrev pub IsShownSo : Shown → Type 0
+IsShownSo Whole = Unit {0}
+IsShownSo Page = Unit {0}
+IsShownSo (Around place width) = (place < 2 ^ 64) × (width < 2 ^ 64)
+
 -- none of its paths begins with a hyphen, what is to be a name is one, a number has 64 bits, and workers are from 1 to their limit
 abbrev pub HasPlainPaths : Task → Type 0
 HasPlainPaths (CheckFormula path) = is_plain path ≡ true
@@ -213,7 +223,7 @@ HasPlainPaths (ProveWithHints development hints) = (is_plain development ≡ tru
 HasPlainPaths (CarryCertificate old certificate new) = (is_plain old ≡ true) × (is_plain certificate ≡ true) × (is_plain new ≡ true)
 HasPlainPaths (CarryWithHints old certificate new hints) = (is_plain old ≡ true) × (is_plain certificate ≡ true) × (is_plain new ≡ true) × (is_plain hints ≡ true)
 HasPlainPaths (RunPlan development certificate plan turns) = (is_plain development ≡ true) × (is_plain certificate ≡ true) × (is_plain plan ≡ true) × AreSeeds turns
-HasPlainPaths (DrawHistory development history html) = (is_plain development ≡ true) × (is_plain history ≡ true)
+HasPlainPaths (DrawHistory development history shown) = (is_plain development ≡ true) × (is_plain history ≡ true) × IsShownSo shown
 HasPlainPaths (BeginDevelopment name) = is_development_name name ≡ true
 HasPlainPaths (PrintLibrary lib text) = Unit {0}
 HasPlainPaths (FindOrder development history check budget) = (is_plain development ≡ true) × (is_plain history ≡ true) × IfSome budget (λ n. n < 2 ^ 64)

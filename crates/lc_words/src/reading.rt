@@ -4,10 +4,10 @@ ghost use Rattle.clap.specs.Words.{found_of, kind_of, rows_of, subcommand_of, su
 ghost use Rattle.clap.specs.declared.error.kind.ErrorKind.TheVariants.{OutOfMemory};
 ghost use Rattle.lc_words.specs.Commands.{program_app};
 ghost use Rattle.lc_words.specs.Tasks.{CheckCertificate, CheckFormula, JudgeHistory, Task, chosen_task, path_in, task_of, texts_of};
-ghost use Rattle.lc_words.specs.Reading.{AreWrong, AskFor, AskForHelp, AsksForText, Reads, beginning_task, checking_task, drawing_task, is_explained, is_set, library_task, listed, listing_task, number_given, number_in, one_file_task, ordering_task, parted, proving_task, range_in, running_task, showing_task, task_in, text_for, turns_by, two_file_task, carrying_task, checked, completing_task};
+ghost use Rattle.lc_words.specs.Reading.{AreWrong, AskFor, AskForHelp, AsksForText, Reads, beginning_task, checking_task, drawing_task, is_explained, is_set, library_task, listed, listing_task, number_given, number_in, one_file_task, ordering_task, parted, proving_task, range_in, running_task, showing_task, task_in, shown_by, text_for, turns_by, two_file_task, carrying_task, checked, completing_task};
 
 use crate::commands::program;
-use crate::request::{Asked, Chosen, LibraryText, Request, Turns};
+use crate::request::{Asked, Chosen, LibraryText, Request, Shown, Turns};
 use clap::error::ErrorKind;
 use clap::{ArgMatches, Error};
 use lc_base::Name;
@@ -32,16 +32,35 @@ fn judge_request<'a>(command: &ArgMatches<'a>) -> Option<Request<'a>>
     })
 }
 
+/// How many events before a mark and behind it are drawn, if no number is given. `shown_by` in `specs/Reading.antt` has the same.
+const USUAL_WIDTH: u64 = 100;
+
+/// What is drawn of a history: a page, or what is near the entry at a place, which exclude each other, or all.
+fn shown_by(html: bool, around: Option<u64>, width: Option<u64>) -> Option<Shown>
+    ensures { result ≡ shown_by html around width }
+{
+    match (html, around, width) {
+        (false, None, None) => Some(Shown::Whole),
+        (true, None, None) => Some(Shown::Page),
+        (false, Some(place), None) => Some(Shown::Around(place, USUAL_WIDTH)),
+        (false, Some(place), Some(width)) => Some(Shown::Around(place, width)),
+        _ => None,
+    }
+}
+
 fn draw_request<'a>(command: &ArgMatches<'a>) -> Option<Request<'a>>
     ensures { option_map task_of result ≡ drawing_task (rows_of (found_of command.now)) }
 {
     let development = command.get_str("DEV")?;
     let history = command.get_str("HISTORY")?;
     let html = is_set(command, "html");
+    let around = number_given(command, "around");
+    let width = number_given(command, "width");
+    let shown = shown_by(html, around, width)?;
     Some(Request::Draw {
         development,
         history,
-        html,
+        shown,
     })
 }
 
@@ -370,6 +389,23 @@ fn run_fault(command: &ArgMatches<'_>) -> (ErrorKind, &'static str)
     }
 }
 
+/// Why the command `draw` asks for nothing.
+fn draw_fault(command: &ArgMatches<'_>) -> (ErrorKind, &'static str)
+    ensures { AsksForText result.0 → ⊥ }
+{
+    if command.get_str("around").is_some() {
+        (
+            ErrorKind::ArgumentConflict,
+            "`--html` and `--around` exclude each other",
+        )
+    } else {
+        (
+            ErrorKind::ArgumentConflict,
+            "`--width` needs `--around`: the width of what is drawn",
+        )
+    }
+}
+
 /// Why words in which clap finds no fault ask for nothing.
 fn fault_in(matches: &ArgMatches<'_>) -> (ErrorKind, &'static str)
     ensures { AsksForText result.0 → ⊥ }
@@ -381,6 +417,7 @@ fn fault_in(matches: &ArgMatches<'_>) -> (ErrorKind, &'static str)
             "`--workers` and `--progress` exclude each other",
         ),
         Some(("library", command)) => library_fault(command),
+        Some(("draw", command)) => draw_fault(command),
         Some(("run", command)) => run_fault(command),
         Some(("new", _)) => (
             ErrorKind::ValueValidation,

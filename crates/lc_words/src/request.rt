@@ -34,6 +34,17 @@ pub enum Turns {
     Traced(Option<u64>),
 }
 
+/// What is drawn of a history.
+#[derive(Clone, Copy)]
+pub enum Shown {
+    /// A picture of all of it.
+    Whole,
+    /// A page for a browser.
+    Page,
+    /// A picture of the calls near the entry at a place of the order: those within so many events before its mark and behind it.
+    Around(u64, u64),
+}
+
 /// What the command line asks for.
 #[derive(Clone, Copy)]
 pub enum Request<'a> {
@@ -86,11 +97,11 @@ pub enum Request<'a> {
         plan: &'a str,
         turns: Turns,
     },
-    /// Draw the history in a file, with its order, by the specification in another, as a page or as a picture.
+    /// Draw the history in a file, with its order, by the specification in another.
     Draw {
         development: &'a str,
         history: &'a str,
-        html: bool,
+        shown: Shown,
     },
     /// Find an order that linearizes the history in a file, by the specification in another, over `budget` nodes, if a number is
     /// given; or say with a word whether there is one.

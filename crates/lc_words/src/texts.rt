@@ -90,6 +90,12 @@ pub(crate) const DRAW: &str = "Draws a history with its order";
 
 pub(crate) const DRAW_HTML: &str = "Print a page for a browser in place of the picture";
 
+pub(crate) const DRAW_AROUND: &str =
+    "Draw only the calls near the entry at place N of the order; excludes --html";
+
+pub(crate) const DRAW_WIDTH: &str =
+    "With --around: those within N events before its mark and behind it; 100 without it";
+
 pub(crate) const DRAW_ANSWER: &str = "\
 Reads DEV and HISTORY as `order` does, and prints a picture as SVG: a line for each client, a bar for each call from its beginning
 to its return, open at the right if it has not returned, and in the bars the entries of the order as marks with their places.
@@ -99,9 +105,15 @@ browser, one file without anything from elsewhere: it draws what is in view of a
 is and of each entry what it changes in the state of the specification, and leads to the first fault and to pending calls. A file
 that `order` refuses is refused here too.
 
-Example:
+With --around N the picture has only the calls near the entry at place N of the order: those that are open, begin or return within 100
+events before its mark and behind it, or within as many as --width says. They are drawn from beginning to return, and marks have the places
+that they have in the whole order. If no mark has this place, the line `no-such-place` is printed, and the status is 1.
+
+Examples:
   lincheck draw examples/counter.spec examples/linearizable.json > history.svg
-      prints a picture of two clients that counted at the same time";
+      prints a picture of two clients that counted at the same time
+  lincheck draw examples/counter.spec examples/recorded.json --around 2 --width 1 > part.svg
+      prints a picture of the calls near the entry at place 2 of the order that is found";
 
 pub(crate) const ORDER: &str =
     "Finds an order that linearizes a recorded history, or shows that there is none";

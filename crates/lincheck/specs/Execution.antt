@@ -53,8 +53,8 @@ AnswersTask bytes_at (CarryWithHints old certificate new hints) text status =
     OfFile (bytes_at old) (λ file. AnswersCarry (AnswersWith (Some (bytes_at hints))) file (bytes_at certificate) (bytes_at new) text status)
 AnswersTask bytes_at (RunPlan development certificate plan turns) text status =
     OfFile (bytes_at development) (λ file. AnswersRun turns file (bytes_at certificate) (bytes_at plan) text status)
-AnswersTask bytes_at (DrawHistory development history html) text status =
-    OfFile (bytes_at development) (λ file. AnswersDraw html file (bytes_at history) text status)
+AnswersTask bytes_at (DrawHistory development history shown) text status =
+    OfFile (bytes_at development) (λ file. AnswersDraw shown file (bytes_at history) text status)
 AnswersTask bytes_at (BeginDevelopment name) text status = AnswersNew name text status
 AnswersTask bytes_at (PrintLibrary lib asked) text status = AnswersLibrary lib asked text status
 AnswersTask bytes_at (FindOrder development history check budget) text status =
@@ -85,7 +85,7 @@ IsUnread CannotOpen bytes_at (ProveWithHints development hints) =
 IsUnread CannotOpen bytes_at (CarryCertificate old certificate new) = IsUnreadCarry CannotOpen bytes_at old certificate new None
 IsUnread CannotOpen bytes_at (CarryWithHints old certificate new hints) = IsUnreadCarry CannotOpen bytes_at old certificate new (Some hints)
 IsUnread CannotOpen bytes_at (RunPlan development certificate plan turns) = IsUnreadRun CannotOpen bytes_at development certificate plan
-IsUnread CannotOpen bytes_at (DrawHistory development history html) =
+IsUnread CannotOpen bytes_at (DrawHistory development history shown) =
     CannotOpen development
     ⊎ ((file : List ℕ) × (spec : Specification) × (bytes_at development ≡ Some file) × Says first_reading file spec × CannotOpen history)
 IsUnread CannotOpen bytes_at (BeginDevelopment name) = ⊥

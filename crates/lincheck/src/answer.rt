@@ -42,6 +42,8 @@ pub enum Why {
     GivenUp(u64),
     /// The development has no point of the name that is asked for.
     NoPoint,
+    /// No entry of the order has a mark with this place.
+    NoMark(u64),
 }
 
 /// What a command answers: what it prints on standard output, its exit status, and why it is refused, if that can be explained.

@@ -413,6 +413,14 @@ fn no_point_told(
     Ok(Some(text.into_bytes()))
 }
 
+/// What is said if what is near an entry is to be drawn, and there is none at its place.
+fn no_mark_told(alloc: Global, place: u64) -> Result<Option<Vec<u8>>, OutOfMemory> {
+    let text = format!(in alloc;
+        "lincheck: the order has no entry with a call at place {place}\n"
+    )?;
+    Ok(Some(text.into_bytes()))
+}
+
 /// What is said of a request that did what it is for.
 fn answered_told(
     alloc: Global,
@@ -449,6 +457,7 @@ fn why_told(
         Some(Why::Overflow) => own_line(alloc, OVERFLOW),
         Some(Why::GivenUp(nodes)) => given_up_told(alloc, nodes),
         Some(Why::NoPoint) => no_point_told(alloc, request, texts, heard),
+        Some(Why::NoMark(place)) => no_mark_told(alloc, place),
         None => answered_told(alloc, request, texts, heard),
     }
 }

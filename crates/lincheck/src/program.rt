@@ -139,9 +139,9 @@ fn carry_out<'a, R: Threads + Wait + Sync, F: Files, O: Write, E: Write>(
         Request::Draw {
             development,
             history,
-            html,
+            shown,
         } => {
-            let answer = answer_draw(alloc, files, development, history, html)?;
+            let answer = answer_draw(alloc, files, development, history, shown)?;
             print_told(out, why, &answer)
         }
         Request::Order {

@@ -2,12 +2,13 @@
 //! return something wrong where the call returns what is right.
 #![tactic(auto)]
 
-ghost use Rattle.std.specs.Prelude.{◌≡◌, ◌⊎◌, Bool, List, None, Some, codes, false, ℕ};
+ghost use Rattle.std.specs.Prelude.{◌≡◌, ◌⊎◌, List, None, Some, codes, false, ℕ};
 ghost use Rattle.lc_cond_text.specs.ConditionText.{conditions_text};
 ghost use Rattle.lc_lib_texts.specs.Texts.{development_bytes};
 ghost use Rattle.lc_words.specs.Reading.{AreWrong};
 ghost use Rattle.lc_words.specs.Tasks.{BeginDevelopment, CarryWithHints, CheckByWorkers, CheckCertificate, CheckFormula, DrawHistory, FindOrder, JudgeHistory, ListConditions, MakeWhole, PrintLibrary, ProveWithHints, RunPlan, ShowLines, Task, texts_of};
 ghost use Rattle.lc_words.specs.declared.request.LibraryText.TheVariants.{Development};
+ghost use Rattle.lc_words.specs.declared.request.Shown.{Shown};
 ghost use Rattle.lc_words.specs.declared.request.Turns.{Turns};
 ghost use Rattle.lincheck.specs.Carry.{AnswersCarry, AnswersWith};
 ghost use Rattle.lincheck.specs.Check.{AnswersCheck, AnswersDevelopment};
@@ -129,9 +130,10 @@ impl<'a, R: Threads + Wait + Sync> Program<'a, R> {
         self.execute(layout, err)
     }
 
-    /// `draw` prints a picture of a history, or with `--html` a page, or the refusal of what is none.
+    /// `draw` prints a picture of a history, or with `--html` a page, or with `--around` what is near an entry of its order, or the
+    /// refusal of what is none.
     pub fn drawing(&mut self, picture: &mut Vec<u8>, err: &mut Vec<u8>) -> u8
-        ensures { (html : Bool) → EndsWith (texts_of self.old.words.now) (DrawHistory (codes "a") (codes "b") html) (AnswersDraw html self.old.files.0.now (Some self.old.files.1.now)) picture.old.items picture.new.items result }
+        ensures { (shown : Shown) → EndsWith (texts_of self.old.words.now) (DrawHistory (codes "a") (codes "b") shown) (AnswersDraw shown self.old.files.0.now (Some self.old.files.1.now)) picture.old.items picture.new.items result }
     {
         self.execute(picture, err)
     }

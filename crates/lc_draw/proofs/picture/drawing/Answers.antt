@@ -1,17 +1,14 @@
-use Rattle.std.proofs.Common.{[], map, option_map, string_bytes, vec_len}
+use Rattle.std.proofs.Common.{◌≡◌, ◌∙◌, ap, arith, length, string_bytes, sym}
+use Rattle.std.proofs.lemmas.List.{length-map}
 use Rattle.lc_history.specs.Histories.{events_in}
-use Rattle.lc_history.specs.History.{count}
-use Rattle.lc_history.specs.View.{entries_view}
-use Rattle.lc_history.specs.WellFormed.{begins}
-use Rattle.lc_draw.specs.Drawings.{event_in, marked}
-use Rattle.lc_draw.specs.declared.places.Cut.{Cut}
-use Rattle.lc_draw.specs.declared.places.Mark.{Mark}
-use Rattle.lc_draw.proofs.Drawn.{draws_so}
+use Rattle.lc_history.specs.View.{entries_view, event_of}
+use Rattle.lc_draw.proofs.Parts.{all-drawn}
 use Rattle.lc_draw.proofs.picture.drawing.Goals as goal
 
 pub returns : goal.returns
 returns c =
-    let laid = c.in_ok-laid.laid in
     let events = events_in c.args.history.now in
-    draws_so (vec_len laid.bars) (count begins events) (map (λ (m : Mark). m.place) laid.marks.items) (marked events [] 0 (entries_view c.args.order.now)) (option_map (λ (k : Cut). k.number) laid.cut) (event_in events c.args.event)
-    (string_bytes c.in_ok-text.text) c.in_ok-laid.ensures.bars c.in_ok-laid.ensures.marks c.in_ok-laid.ensures.cut c.in_ok-text.ensures
+    let all = c.in_ok-all.all in
+    let long : length c.events-count.result.now ≡ length events = sym (length-map c.events-count.result.now event_of) ∙ ap length c.events-count.ensures in
+    let end : all.until ≡ length events = omega (arith, c.in_ok-all.ensures.until, long) in
+    all-drawn events (entries_view c.args.order.now) c.args.event (string_bytes c.in_ok-text.text) all.from all.until c.in_ok-all.ensures.from end c.in_ok-text.ensures

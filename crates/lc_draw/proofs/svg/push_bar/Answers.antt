@@ -7,7 +7,7 @@ pub returns : goal.returns
 returns c =
     let b : Bar = record {
       is_at_fault = c.args.is_at_fault;
-      is_closed = c.args.bar.now.has_returned;
+      is_closed = c.is_some-is_closed.result;
       begins = c.across_of-begins.result;
       ends = c.across_of-ends.result;
       top = c.bar_top_of-top.result;

@@ -1,4 +1,4 @@
-use Rattle.std.proofs.Common.{◌≡◌, ◌++◌, true, string_bytes, to_z, of_z, w64, ap, ◌∙◌, rules}
+use Rattle.std.proofs.Common.{◌≡◌, ◌++◌, string_bytes, to_z, of_z, w64, ap, ◌∙◌, rules}
 use Rattle.std.specs.Fmt.{signed_decimal}
 use Rattle.lc_draw.specs.Elements.{are_plain}
 use Rattle.lc_draw.proofs.Plainness.{plain_append, plain_signed}
