@@ -138,7 +138,7 @@ impl<'a, R: Threads + Wait + Sync> Program<'a, R> {
         self.execute(picture, err)
     }
 
-    /// `new` prints a development of a name.
+    /// `new` prints a short development of a name.
     pub fn beginning(&mut self, development: &mut Vec<u8>, err: &mut Vec<u8>) -> u8
         ensures { (name : List ℕ) → EndsWith (texts_of self.old.words.now) (BeginDevelopment name) (AnswersNew name) development.old.items development.new.items result }
     {
