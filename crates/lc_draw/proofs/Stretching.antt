@@ -207,13 +207,6 @@ with-entry turns turns' before e more seen c = more c ∙ by (c == e.client) ref
     by : (b : Bool) → (c == e.client) ≡ b → cond (c == e.client) (suc (turns_of turns c)) (turns_of turns c) ≡ count (is_of c) (before ++ e ∷ [])
     by b h = ap₂ (λ t k. cond t (suc k) k) h (seen c) ∙ sym (count-last (is_of c) before e b (flipped_test c e.client b h))
 
--- an entry that has no call has no mark
-pub mark-none : (events : List Event) (before : List Entry) (e : Entry) (calls turn : ℕ) → turn ≡ count (is_of e.client) before → calls ≡ count (is_call e.client) events → calls ≤ turn → None ≡ events_to_mark events before e
-mark-none events before e calls turn its so over = sym (ap (λ b. cond b (Some (events_before events before e)) None) (by (count (is_of e.client) before) (count (is_call e.client) events) (omega (arith, its, so, over))))
-  where
-    by : (t n : ℕ) → n ≤ t → nat_lt t n ≡ false
-    by t n h = grind (arith, nat_tests)
-
 -- one that has a call
 pub mark-some : (events : List Event) (before : List Entry) (e : Entry) (first : List (ℕ × ℕ)) (calls turn begun kept n : ℕ) → turn ≡ count (is_of e.client) before → calls ≡ count (is_call e.client) events → turn < calls
     → ((c : ℕ) → turns_of first c ≡ count (is_of c) (before ++ e ∷ [])) → length events ≡ n → begun ≡ up_to_last (begins_such_at (has_turn first) events) n
