@@ -130,8 +130,6 @@ impl<J: Ledger> Shared<J> {
         if clients == 0 || clients > SEAT_LIMIT {
             return Err(RunFault::Clients);
         }
-        let draft = start_draft(alloc, &accepted)?;
-        let stands = idle_clients(alloc, clients)?;
         let (book, mut rest) = blank.open::<J>();
         let mut seats = Vec::with_capacity(alloc, clients as usize)?;
         for client in 0..clients {
@@ -143,6 +141,8 @@ impl<J: Ledger> Shared<J> {
             };
             seats.push_reserved(seat);
         }
+        let draft = start_draft(alloc, &accepted)?;
+        let stands = idle_clients(alloc, clients)?;
         let labels = Vec::new(alloc);
         let shared = Shared {
             alloc,
