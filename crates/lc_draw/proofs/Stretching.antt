@@ -3,9 +3,8 @@ use Rattle.std.proofs.Common.{◌≡◌, ℕ, zero, suc, ◌+◌, ◌<◌, ◌�
 use Rattle.std.specs.Prelude.{min, option_and_then, slice_get}
 use Rattle.std.specs.Option.{option_map_or}
 use Rattle.std.proofs.lemmas.Bool.Decides.{nat_tests}
-use Rattle.std.proofs.lemmas.List.{at_drop_more, drop_all, length-map, length-take, map_more, take_min, take_more}
+use Rattle.std.proofs.lemmas.List.{at_drop_more, drop_all, length-map, length-take, map_more, take-map, take_min, take_more}
 use Rattle.std.proofs.lemmas.Option.{same_Some, slice_get-get_or}
-use Rattle.core.proofs.slice.Prefixes.{take-map}
 use Rattle.lc_lemmas.proofs.Lists.{seen_at}
 use Rattle.lc_lemmas.proofs.Numbers.{flipped_test}
 use Rattle.lc_history.specs.History.{Event, Called, Replied, Entry, count, is_call, is_return, is_of}

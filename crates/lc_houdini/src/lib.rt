@@ -2,7 +2,6 @@
 //! promised of what is left: what is completed by it is a development, whose conditions are to be proved.
 #![tactic(auto)]
 
-mod core;
 mod facts;
 mod goals;
 mod guards;
@@ -10,6 +9,7 @@ mod marks;
 mod needs;
 mod searching;
 mod sifting;
+mod used;
 
 pub use guards::written_actions;
 pub use sifting::sifted;

@@ -2,11 +2,11 @@
 ghost use Rattle.lc_cond.specs.ConditionView.{AreConditions, IsCondition};
 ghost use Rattle.lc_table.specs.Tables.{AreFormulas, IsFormula, Keeps};
 
-use crate::core::mark_used;
 use crate::facts::Facts;
 use crate::goals::{asking, conjuncts, formula_at, opened};
 use crate::marks::{is_set, marks};
 use crate::needs::{Need, Ways, guarded, withstood};
+use crate::used::mark_used;
 use lc_base::{OutOfMemory, PointId};
 use lc_cond::{Condition, ConditionStream};
 use lc_kernel::Goal;

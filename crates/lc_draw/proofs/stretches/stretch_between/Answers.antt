@@ -1,5 +1,5 @@
 use Rattle.std.proofs.Common.{◌∙◌, ap, sym}
-use Rattle.core.proofs.slice.Prefixes.{take-map}
+use Rattle.std.proofs.lemmas.List.{take-map}
 use Rattle.lc_history.specs.History.{count, is_call, is_return}
 use Rattle.lc_history.specs.View.{event_of, events_of}
 use Rattle.lc_draw.proofs.stretches.stretch_between.Goals as goal
