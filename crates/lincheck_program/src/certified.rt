@@ -1,5 +1,6 @@
 //! A certificate of what `complete` answers, which is put into a file: `--certificate FILE`.
-use lincheck::{Files, OUT_OF_MEMORY, execute};
+use crate::given::{Given, Put};
+use lincheck::{Files, OUT_OF_MEMORY, SUCCESS, execute};
 use std::alloc::{AllocError, Global};
 use std::io;
 use std::io::Write;
@@ -29,17 +30,23 @@ fn proving(alloc: Global) -> Result<Vec<String>, AllocError> {
     Ok(words)
 }
 
-/// Finds a certificate of a development that was printed. Returns the status of `prove`.
-pub fn certify<R: Threads + Wait + Sync, E: Write>(
+/// Finds a certificate of the development that was answered with this status, if it is whole and one is to be put into a file. Returns the
+/// status: that of `prove` if it was asked.
+pub fn certified<R: Threads + Wait + Sync, E: Write>(
     rt: &R,
     alloc: Global,
+    given: &Given,
+    status: u8,
     development: &[u8],
-    certificate: &mut Vec<u8>,
+    found: &mut Vec<u8>,
     err: &mut E,
 ) -> u8 {
+    if status != SUCCESS || !matches!(given.put, Some(Put::Certificate(_))) {
+        return status;
+    }
     let Ok(words) = proving(alloc) else {
         return OUT_OF_MEMORY;
     };
     let mut files = Printed { text: development };
-    execute(rt, alloc, words.as_slice(), &mut files, certificate, err)
+    execute(rt, alloc, words.as_slice(), &mut files, found, err)
 }

@@ -6,7 +6,7 @@ mod given;
 mod objects;
 mod output;
 
-use certified::certify;
+use certified::certified;
 use given::{Given, Put, words_of};
 use lincheck::{COMMAND_LINE_FAULT, Disk, OUT_OF_MEMORY, SUCCESS, execute};
 use objects::write_objects;
@@ -25,8 +25,10 @@ fn main(rt: HostRuntime) -> ExitCode {
     if given.is_json {
         let mut out = Vec::new(rt.alloc());
         let mut said = Vec::new(rt.alloc());
+        let mut found = Vec::new(rt.alloc());
         let status = execute(&rt, rt.alloc(), words, &mut files, &mut out, &mut said);
-        return ExitCode::from(put_objects(&rt, &given, status, &out, said));
+        let status = certified(&rt, rt.alloc(), &given, status, &out, &mut found, &mut said);
+        return ExitCode::from(put_objects(&rt, &given, status, &out, &found, said));
     }
     let mut err = rt.stderr();
     if given.put.is_none() {
@@ -35,34 +37,48 @@ fn main(rt: HostRuntime) -> ExitCode {
         return ExitCode::from(status);
     }
     let mut out = Vec::new(rt.alloc());
+    let mut found = Vec::new(rt.alloc());
     let status = execute(&rt, rt.alloc(), words, &mut files, &mut out, &mut err);
-    let Some(Put::Certificate(path)) = &given.put else {
-        return ExitCode::from(put(&rt, &given, status, &out, &mut err));
-    };
-    let mut certificate = Vec::new(rt.alloc());
-    let mut status = print_whole(&rt, status, &out, &mut err);
-    if status == SUCCESS {
-        status = certify(&rt, rt.alloc(), &out, &mut certificate, &mut err);
-    }
-    if status == SUCCESS {
-        status = put_certificate(&rt, path.as_str(), &certificate, &mut err);
-    }
-    ExitCode::from(status)
+    let status = certified(&rt, rt.alloc(), &given, status, &out, &mut found, &mut err);
+    ExitCode::from(put(&rt, &given, status, &out, &found, &mut err))
 }
 
-/// Puts the answer of this status into the file that is named, or prints it; returns the status.
-fn put<E: Write>(rt: &HostRuntime, given: &Given, status: u8, out: &[u8], err: &mut E) -> u8 {
+/// Puts the answer of this status, or the certificate that was found for it, into the file that is named, and prints the answer if it is not put there;
+/// returns the status.
+fn put<E: Write>(
+    rt: &HostRuntime,
+    given: &Given,
+    status: u8,
+    out: &[u8],
+    found: &[u8],
+    err: &mut E,
+) -> u8 {
     match &given.put {
         Some(Put::Answer(path)) => put_answer(rt, path.as_str(), status, out, err),
-        _ => print_whole(rt, status, out, err),
+        Some(Put::Certificate(path)) => {
+            let printed = print_whole(rt, status, out, err);
+            if printed == SUCCESS {
+                put_certificate(rt, path.as_str(), found, err)
+            } else {
+                printed
+            }
+        }
+        None => print_whole(rt, status, out, err),
     }
 }
 
-/// Puts the answer of this status into the file that is named, or prints it; says on standard error by objects what is to be said; and
-/// returns the status.
-fn put_objects(rt: &HostRuntime, given: &Given, status: u8, out: &[u8], said: Vec<u8>) -> u8 {
+/// Puts what is to be put into a file there, and prints the rest; says on standard error by objects what is to be said; and returns the
+/// status.
+fn put_objects(
+    rt: &HostRuntime,
+    given: &Given,
+    status: u8,
+    out: &[u8],
+    found: &[u8],
+    said: Vec<u8>,
+) -> u8 {
     let mut said = said;
-    let status = put(rt, given, status, out, &mut said);
+    let status = put(rt, given, status, out, found, &mut said);
     write_objects(rt.alloc(), status, out, &said, &mut rt.stderr());
     status
 }
