@@ -12,8 +12,8 @@ use crate::inferred::inferred_lines;
 use crate::noting::noted;
 use lc_base::{Fault, OutOfMemory};
 use lc_fill::Plan;
-use lc_guess::guess;
-use lc_houdini::sifted;
+use lc_guess::{Reach, guess};
+use lc_houdini::{Sifted, sifted};
 use lc_layout::lay_out;
 use lc_outline::Development;
 use lc_sexp::Forms;
@@ -73,6 +73,39 @@ fn shown(alloc: Global, text: &[u8], forms: &Forms, plan: &Plan) -> Result<Vec<u
     Ok(shown)
 }
 
+/// What is guessed so far for a short development with these forms, in which these places lack calls, and stays.
+fn planned_by(
+    alloc: Global,
+    forms: &Forms,
+    lacking: &[u64],
+    reach: Reach,
+    budget: u64,
+) -> Result<Sifted, OutOfMemory> {
+    let guessed = guess(alloc, forms, lacking, reach)?;
+    sifted(alloc, forms, guessed, budget)
+}
+
+/// What is planned: what is told, if all conditions have proofs then; else also what is tried, if more of them have.
+fn planned(
+    alloc: Global,
+    forms: &Forms,
+    lacking: &[u64],
+    budget: u64,
+) -> Result<Plan, OutOfMemory> {
+    let Sifted { plan, unfound } = planned_by(alloc, forms, lacking, Reach::Told, budget)?;
+    let Some(count) = unfound else {
+        return Ok(plan);
+    };
+    if count == 0 {
+        return Ok(plan);
+    }
+    let tried = planned_by(alloc, forms, lacking, Reach::Tried, budget)?;
+    match tried.unfound {
+        Some(fewer) if fewer < count => Ok(tried.plan),
+        _ => Ok(plan),
+    }
+}
+
 /// The short development of the file with these forms, made whole. Guessed facts of which no proof is found in at most `budget` steps, and those
 /// that nothing needs, are left out. What was guessed need not hold: whether all conditions of the development are valid is for the finder to say.
 ///
@@ -82,8 +115,7 @@ pub fn complete(alloc: Global, forms: &Forms, budget: u64) -> Result<Made, Fault
     ensures { (bytes : List ℕ) → ReadsAs bytes forms.now → IsAnswer bytes result }
 {
     let short = short_in(alloc, forms)?;
-    let guessed = guess(alloc, forms, short.lacking())?;
-    let mut plan = sifted(alloc, forms, guessed, budget)?;
+    let mut plan = planned(alloc, forms, short.lacking(), budget)?;
     let completion = completed_by(alloc, forms, &mut plan)?;
     let text = shown(alloc, &completion.text, forms, &plan)?;
     let Completion { development, .. } = completion;

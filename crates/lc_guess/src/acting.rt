@@ -122,11 +122,13 @@ fn put_stored<'a>(
 
 /// Whether each local in a text is a parameter, or known to be a cell.
 fn is_said(scope: &Scope<'_, '_>, text: &str) -> bool {
+    let mut is_column = false;
     for word in text.split(MARKS) {
-        let is_parameter = scope.used.contains(&word);
+        let is_parameter = is_column || scope.used.contains(&word);
         if scope.locals.contains(word) && !is_parameter && !scope.is_cell(word) {
             return false;
         }
+        is_column = word == "rd";
     }
     true
 }
@@ -200,7 +202,7 @@ fn guard_of<'a>(
     edge: &Edge<'a>,
     standing: Standing<'_, '_>,
 ) -> Result<String, OutOfMemory> {
-    let is_pending = object.is_helped && standing.phase == Phase::Called;
+    let is_pending = object.is_helped && (scope.is_tried || standing.phase == Phase::Called);
     let mut out = String::from_str(
         alloc,
         if is_pending {
@@ -286,7 +288,7 @@ pub(crate) fn action_of<'a>(
     standing: Standing<'_, '_>,
 ) -> Result<Option<Guessed>, OutOfMemory> {
     let arguments = body.operation.arguments;
-    let mut scope = Scope::new(alloc, arguments, "self", body.locals)?;
+    let mut scope = Scope::new(alloc, arguments, "self", body.locals, body.is_tried())?;
     let mut deeds = Deeds {
         stores: Stores::new(alloc),
         switch: None,

@@ -1,5 +1,7 @@
 //! How the cells of an object are changed by its instructions and its riders.
-use crate::text::{each_item, first_text, items_within, later, nth_text, text_of, within_first};
+use crate::text::{
+    each_item, each_numbered, first_text, items_within, later, nth_text, text_of, within_first,
+};
 use lc_base::OutOfMemory;
 use lc_reading::{Part, behind_word};
 use lc_sexp::{Cursor, Item};
@@ -200,4 +202,66 @@ pub(crate) fn is_of_bits(parts: Cursor<'_>, name: &str) -> bool {
         }
     }
     is_auxiliary
+}
+
+/// The place of a column in an array with these parts, if it is one of it and each cell is 0 or 1 at first.
+fn place_of_bits(array: Cursor<'_>, name: &str) -> Option<usize> {
+    for (place, part) in each_numbered(later(array)) {
+        let parts = items_within(part);
+        if first_text(parts) == name && nth_text(parts, 1) == "0" && is_bit(nth_text(parts, 2)) {
+            return Some(place);
+        }
+    }
+    None
+}
+
+/// Whether an instruction stores nothing but 0 and 1 in the column at a place of an array.
+fn puts_bits(instruction: Cursor<'_>, array: &str, place: usize) -> bool {
+    let code = later(instruction);
+    if first_text(code) != array {
+        return true;
+    }
+    match first_text(instruction) {
+        "store" => is_bit(nth_text(within_first(later(later(code))), place)),
+        "cas" => is_bit(nth_text(within_first(later(later(later(code)))), place)),
+        "faa" => false,
+        _ => true,
+    }
+}
+
+/// Whether the points with these forms store nothing but 0 and 1 in the column at a place of an array.
+fn all_put_bits(points: Cursor<'_>, array: &str, place: usize) -> bool {
+    for point in each_item(points) {
+        if !puts_bits(
+            within_first(later(later(items_within(point)))),
+            array,
+            place,
+        ) {
+            return false;
+        }
+    }
+    true
+}
+
+/// Whether each cell of a column of an array is 0 or 1, in an object with these parts: nothing else is stored in it.
+pub(crate) fn stores_bits(parts: Cursor<'_>, name: &str) -> bool {
+    let mut found = None;
+    for part in each_item(parts) {
+        if let Ok(array) = behind_word(part, "array")
+            && let Some(place) = place_of_bits(array, name)
+        {
+            found = Some((first_text(array), place));
+        }
+    }
+    let Some((array, place)) = found else {
+        return false;
+    };
+    for part in each_item(parts) {
+        if let Ok(body) = behind_word(part, "body")
+            && !all_put_bits(later(later(body)), array, place)
+        {
+            return false;
+        }
+    }
+    true
 }

@@ -4,7 +4,7 @@ use crate::code::{Edge, read_points};
 use crate::known::{Known, Place};
 use crate::object::Object;
 use crate::placing::find_places;
-use crate::seen::Body;
+use crate::seen::{Body, Reach};
 use crate::signature::Operations;
 use crate::text::{each_item, first_text, later, within_first};
 use lc_base::OutOfMemory;
@@ -57,7 +57,7 @@ fn guess_edge<'a>(
     at: Place<'a, '_>,
     edge: &Edge<'a>,
 ) -> Result<(), OutOfMemory> {
-    let facts = at.guarding(alloc)?;
+    let facts = at.guarding(alloc, edge)?;
     let standing = Standing {
         phase: at.phase(),
         facts: &facts,
@@ -107,6 +107,7 @@ fn guess_object<'a>(
     operations: &Operations<'a>,
     parts: Cursor<'a>,
     lacking: &[u64],
+    reach: Reach,
     guesses: &mut Guesses,
 ) -> Result<(), OutOfMemory> {
     let object = Object::new(alloc, parts)?;
@@ -127,15 +128,21 @@ fn guess_object<'a>(
             locals: &locals,
             object: &object,
             places: &places,
+            reach,
         };
         guess_body(alloc, body, lacking, guesses, later(later(inside)))?;
     }
     Ok(())
 }
 
-/// What is guessed for a short development with these forms, in which these places lack the call of an action. Nothing is promised of it: what is
-/// completed by it is a development, and whether its conditions are valid is for others to say.
-pub fn guess(alloc: Global, forms: &Forms, lacking: &[u64]) -> Result<Plan, OutOfMemory> {
+/// What is guessed so far for a short development with these forms, in which these places lack the call of an action. Nothing is promised of it: what
+/// is completed by it is a development, and whether its conditions are valid is for others to say.
+pub fn guess(
+    alloc: Global,
+    forms: &Forms,
+    lacking: &[u64],
+    reach: Reach,
+) -> Result<Plan, OutOfMemory> {
     let file = forms.cursor();
     let operations = Operations::new(alloc, later(within_first(file)))?;
     let object = later(within_first(later(file)));
@@ -144,7 +151,7 @@ pub fn guess(alloc: Global, forms: &Forms, lacking: &[u64]) -> Result<Plan, OutO
         calls: Vec::new(alloc),
         asserts: Vec::new(alloc),
     };
-    guess_object(alloc, &operations, object, lacking, &mut guesses)?;
+    guess_object(alloc, &operations, object, lacking, reach, &mut guesses)?;
     Ok(Plan {
         actions: forms_of(alloc, &guesses.actions)?,
         calls: guesses.calls,

@@ -8,7 +8,7 @@ use crate::marking::reply_column;
 use crate::noting::condition_of;
 use crate::phases::{Phase, find_phases};
 use crate::seen::Body;
-use crate::telling::{Told, tell};
+use crate::telling::{Told, tell, tested_at};
 use crate::text::{
     each_cell, each_item, each_numbered, first_text, mentions, nth_text, printed, text_of,
 };
@@ -193,6 +193,11 @@ impl<'a> Place<'a, '_> {
                 facts.push(holds(alloc, "pend", "self", "2")?)?;
                 self.push_replies(alloc, facts)?;
             }
+            Phase::Unseen | Phase::Either if self.body.is_tried() => {
+                facts.push(holds(alloc, "pend", "self", "1")?)?;
+                facts.push(holds(alloc, "pend", "self", "2")?)?;
+                self.push_replies(alloc, facts)?;
+            }
             Phase::Unseen | Phase::Either => {}
         }
         Ok(())
@@ -207,7 +212,7 @@ impl<'a> Place<'a, '_> {
 
     /// Whether a fact can be of use: at a return it has to speak of what is noted, or returned.
     fn is_of_use(self, fact: &Fact) -> bool {
-        if self.point.word != "return" {
+        if self.body.is_tried() || self.point.word != "return" {
             return true;
         }
         if !fact.premise.is_empty() {
@@ -244,7 +249,12 @@ impl<'a> Place<'a, '_> {
         let mut facts = Vec::new(alloc);
         self.push_settled(alloc, &mut facts)?;
         let told = self.told(alloc)?;
-        for text in grouped(alloc, &told)? {
+        let texts = if self.body.is_tried() {
+            each_text(alloc, &told)?
+        } else {
+            grouped(alloc, &told)?
+        };
+        for text in texts {
             facts.retain(|other| other.as_str() != text.as_str());
             facts.push(text)?;
         }
@@ -255,9 +265,35 @@ impl<'a> Place<'a, '_> {
         Ok(facts)
     }
 
-    /// What is known for the guard of an action: also what the file asserts.
-    pub(crate) fn guarding(self, alloc: Global) -> Result<Vec<Fact>, OutOfMemory> {
+    /// Appends what is tried for a guard where a test tells more.
+    fn push_shown(
+        self,
+        alloc: Global,
+        facts: &mut Vec<Fact>,
+        edge: &Edge<'a>,
+    ) -> Result<(), OutOfMemory> {
+        let mut shown = Vec::new(alloc);
+        for text in tested_at(alloc, self.point, edge)? {
+            for fact in facts.iter() {
+                if fact.premise.as_str() == text.as_str() {
+                    shown.push(Fact::plain(alloc, fact.claim.clone()?))?;
+                }
+            }
+            shown.push(Fact::plain(alloc, text))?;
+        }
+        for atom in &self.body.object.idle_atoms {
+            shown.push(Fact::plain(alloc, atom.clone()?))?;
+        }
+        facts.append(&mut shown)?;
+        Ok(())
+    }
+
+    /// What is known for the guard of the action of an edge: also what the file asserts.
+    pub(crate) fn guarding(self, alloc: Global, edge: &Edge<'a>) -> Result<Vec<Fact>, OutOfMemory> {
         let mut facts = self.told(alloc)?;
+        if self.body.is_tried() && self.point.word == "if" {
+            self.push_shown(alloc, &mut facts, edge)?;
+        }
         for part in each_item(self.point.asserted) {
             facts.push(Fact::plain(alloc, printed(alloc, part)?))?;
         }
@@ -291,6 +327,15 @@ fn joined_under(alloc: Global, facts: &[Fact], premise: &str) -> Result<String, 
     } else {
         format!(in alloc; "(=> {premise} (and {claims}))")?
     })
+}
+
+/// These facts, each by itself.
+fn each_text(alloc: Global, facts: &[Fact]) -> Result<Vec<String>, OutOfMemory> {
+    let mut texts = Vec::new(alloc);
+    for fact in facts {
+        texts.push(fact.text(alloc)?)?;
+    }
+    Ok(texts)
 }
 
 /// These facts, those with one premise together.

@@ -26,5 +26,7 @@ mod stores;
 mod switching;
 mod telling;
 mod text;
+mod trying;
 
 pub use guessing::guess;
+pub use seen::Reach;

@@ -105,7 +105,13 @@ fn put_mark<'a>(
 ) -> Result<(), OutOfMemory> {
     let given = given_for(alloc, scope, mark)?;
     let none = NameTable::new(alloc);
-    let mut own = Scope::new(alloc, mark.operation.arguments, &mark.client, &none)?;
+    let mut own = Scope::new(
+        alloc,
+        mark.operation.arguments,
+        &mark.client,
+        &none,
+        scope.is_tried,
+    )?;
     own.given = given;
     own.set_stores(deeds.stores.copy(alloc)?);
     let stored = stored_by(alloc, &mut own, mark)?;

@@ -1,15 +1,21 @@
 //! What is looked at of an object.
-use crate::changes::{Change, Column, find_columns, is_of_bits};
-use crate::text::{each_item, first_text, items_within, later, mentions, push_each, push_parts};
+use crate::changes::{Change, Column, find_columns, is_of_bits, stores_bits};
+use crate::text::{
+    each_item, first_text, items_within, later, mentions, printed, printed_first, push_each,
+    push_parts,
+};
 use lc_base::OutOfMemory;
-use lc_reading::{NameTable, Part, behind_word};
-use lc_sexp::Cursor;
+use lc_reading::{NameTable, Part, behind_word, next_part};
+use lc_sexp::{Cursor, Item};
 use std::alloc::Global;
 
 /// How many claims of the invariant are looked at, and how long they may be.
 const MOST_CLAIMS: usize = 64;
 
 const LONGEST_CLAIM: usize = 256;
+
+/// How many formulas of idle clients are looked at.
+const MOST_ATOMS: usize = 8;
 
 /// An object.
 pub(crate) struct Object<'a> {
@@ -21,10 +27,16 @@ pub(crate) struct Object<'a> {
     columns: Vec<Cursor<'a>>,
     /// What the invariant claims, one after the other, of the beginning of it.
     pub(crate) claims: Vec<String>,
+    /// The equations in it that speak of no bound variable.
+    pub(crate) equations: Vec<String>,
+    /// What it leaves open.
+    pub(crate) choices: Vec<Choice>,
     /// The claims for all numbers, `V F`, of the beginning of it.
     pub(crate) general: Vec<Cursor<'a>>,
     /// What holds of idle clients.
     pub(crate) idle: Vec<String>,
+    /// Of what holds of idle clients, what is no connective of others.
+    pub(crate) idle_atoms: Vec<String>,
     /// The names of the actions that it declares.
     pub(crate) actions: NameTable<'a>,
     /// Whether clients mark calls of others.
@@ -39,11 +51,84 @@ impl Drop for Object<'_> {
             arrays: _,
             columns: _,
             claims: _,
+            equations: _,
+            choices: _,
             general: _,
             idle: _,
+            idle_atoms: _,
             actions: _,
             is_helped: _,
         } = self;
+    }
+}
+
+/// A formula `(or A B ..)`.
+#[derive(Drop)]
+pub(crate) struct Choice {
+    pub(crate) first: String,
+    pub(crate) text: String,
+}
+
+/// Appends what a conjunct `(NAME F)` leaves open.
+fn push_choices(
+    alloc: Global,
+    choices: &mut Vec<Choice>,
+    conjunct: Part<'_>,
+) -> Result<(), OutOfMemory> {
+    for formula in each_item(later(items_within(conjunct))) {
+        if let Ok(parts) = behind_word(formula, "or")
+            && choices.len() < MOST_CLAIMS
+        {
+            choices.push(Choice {
+                first: printed_first(alloc, parts)?,
+                text: printed(alloc, formula)?,
+            })?;
+        }
+    }
+    Ok(())
+}
+
+/// Appends the equations in these formulas that speak of no bound variable.
+fn push_equations(
+    alloc: Global,
+    equations: &mut Vec<String>,
+    formulas: Cursor<'_>,
+) -> Result<(), OutOfMemory> {
+    let mut rest = formulas;
+    'items: loop {
+        let Ok(part) = next_part(&mut rest) else {
+            return Ok(());
+        };
+        if let Item::List(inside) = part.item() {
+            match first_text(inside) {
+                "=" if equations.len() < MOST_CLAIMS => equations.push(printed(alloc, part)?)?,
+                "=" | "forall" | "exists" => {}
+                _ => push_equations(alloc, equations, inside)?,
+            }
+        }
+    }
+}
+
+/// Appends the formulas in these that are no connective of others.
+fn push_atoms(
+    alloc: Global,
+    atoms: &mut Vec<String>,
+    formulas: Cursor<'_>,
+) -> Result<(), OutOfMemory> {
+    let mut rest = formulas;
+    'items: loop {
+        let Ok(part) = next_part(&mut rest) else {
+            return Ok(());
+        };
+        if let Item::List(inside) = part.item() {
+            match first_text(inside) {
+                "and" | "or" | "=>" => push_atoms(alloc, atoms, later(inside))?,
+                "=" | "<=" | "not" if atoms.len() < MOST_ATOMS => {
+                    atoms.push(printed(alloc, part)?)?
+                }
+                _ => {}
+            }
+        }
     }
 }
 
@@ -83,8 +168,11 @@ impl<'a> Object<'a> {
         let mut arrays = NameTable::new(alloc);
         let mut columns = Vec::new(alloc);
         let mut claims = Vec::new(alloc);
+        let mut equations = Vec::new(alloc);
+        let mut choices = Vec::new(alloc);
         let mut general = Vec::new(alloc);
         let mut idle = Vec::new(alloc);
+        let mut idle_atoms = Vec::new(alloc);
         let mut actions = NameTable::new(alloc);
         for part in each_item(parts) {
             let inside = items_within(part);
@@ -95,10 +183,15 @@ impl<'a> Object<'a> {
                     columns.push(later(behind))?;
                 }
                 "action" => actions = actions.enter(first_text(behind))?,
-                "idle" => push_each(alloc, &mut idle, behind)?,
+                "idle" => {
+                    push_each(alloc, &mut idle, behind)?;
+                    push_atoms(alloc, &mut idle_atoms, behind)?;
+                }
                 "invariant" => {
+                    push_equations(alloc, &mut equations, behind)?;
                     for conjunct in each_item(behind) {
                         push_claims(alloc, &mut claims, conjunct)?;
+                        push_choices(alloc, &mut choices, conjunct)?;
                         push_general(&mut general, conjunct)?;
                     }
                 }
@@ -112,8 +205,11 @@ impl<'a> Object<'a> {
             arrays,
             columns,
             claims,
+            equations,
+            choices,
             general,
             idle,
+            idle_atoms,
             actions,
             is_helped,
         })
@@ -138,6 +234,11 @@ impl<'a> Object<'a> {
             }
         }
         Change::Other
+    }
+
+    /// Whether each cell of a column of an array is 0 or 1.
+    pub(crate) fn stores_bits(&self, name: &str) -> bool {
+        stores_bits(self.parts, name)
     }
 
     /// Whether each cell of a column is 0 or 1.

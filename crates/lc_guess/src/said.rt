@@ -41,6 +41,8 @@ pub(crate) struct Scope<'a, 'b> {
     pub(crate) lost: Vec<&'a str>,
     /// Whether one of them was to be said, or more locals than an action has parameters.
     pub(crate) is_unsaid: bool,
+    /// Whether a cell of which it is not known whether something was stored in it is said as it was before.
+    pub(crate) is_tried: bool,
     /// The locals that were said, which become parameters.
     pub(crate) used: Vec<&'a str>,
 }
@@ -61,6 +63,7 @@ impl<'a, 'b> Scope<'a, 'b> {
         arguments: Cursor<'a>,
         client: &str,
         locals: &'b NameTable<'a>,
+        is_tried: bool,
     ) -> Result<Scope<'a, 'b>, OutOfMemory> {
         Ok(Scope {
             alloc,
@@ -72,6 +75,7 @@ impl<'a, 'b> Scope<'a, 'b> {
             given: Vec::new(alloc),
             lost: Vec::new(alloc),
             is_unsaid: false,
+            is_tried,
             used: Vec::new(alloc),
         })
     }
@@ -163,6 +167,7 @@ impl<'a, 'b> Scope<'a, 'b> {
         if let Some((column, index)) = cell {
             match self.stores.held(column, index) {
                 Held::Before => {}
+                Held::Unknown if self.is_tried => {}
                 Held::Stored(value) => {
                     out.push_str(value)?;
                     return Ok(());
@@ -236,11 +241,17 @@ impl<'a, 'b> Scope<'a, 'b> {
         Ok(())
     }
 
-    /// Writes a text in which all locals are parameters or cells.
+    /// Writes a text in which all locals are parameters or cells. The word behind `rd` is a column.
     pub(crate) fn write_text(&self, out: &mut String, text: &str) -> Result<(), OutOfMemory> {
+        let mut is_column = false;
         for piece in text.split_inclusive(MARKS) {
             let word = piece.trim_end_matches(MARKS);
-            self.write_word(out, word)?;
+            if is_column {
+                out.push_str(word)?;
+            } else {
+                self.write_word(out, word)?;
+            }
+            is_column = word == "rd";
             if let Some(mark) = piece.strip_prefix(word) {
                 out.push_str(mark)?;
             }

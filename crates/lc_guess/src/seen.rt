@@ -9,6 +9,15 @@ use crate::text::{Cells, each_cell, each_item, first_text, text_of};
 use lc_reading::NameTable;
 use lc_sexp::Cursor;
 
+/// How far it is guessed.
+#[derive(Clone, Copy, PartialEq, Eq)]
+pub enum Reach {
+    /// What the text tells.
+    Told,
+    /// Also what is only tried, whether or not other clients make it false.
+    Tried,
+}
+
 /// What the points of a body are looked at with.
 #[derive(Clone, Copy)]
 pub(crate) struct Body<'a, 'b> {
@@ -20,9 +29,15 @@ pub(crate) struct Body<'a, 'b> {
     pub(crate) locals: &'b NameTable<'a>,
     pub(crate) object: &'b Object<'a>,
     pub(crate) places: &'b Option<Places<'a>>,
+    pub(crate) reach: Reach,
 }
 
 impl<'a> Body<'a, '_> {
+    /// Whether it is guessed what is only tried.
+    pub(crate) fn is_tried(self) -> bool {
+        self.reach == Reach::Tried
+    }
+
     /// The local of a name, as it is declared.
     pub(crate) fn local(self, name: &str) -> Option<&'a str> {
         for part in each_item(self.declared) {

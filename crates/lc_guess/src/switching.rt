@@ -111,6 +111,30 @@ fn index_at(
     }
 }
 
+/// A term that is 0 just where this condition does not hold, if that is on a cell that is read, of a column of zeros and ones.
+fn switch_read(
+    alloc: Global,
+    object: &Object<'_>,
+    point: &Point<'_>,
+    condition: &str,
+) -> Result<Option<String>, OutOfMemory> {
+    let index = point.index(alloc)?;
+    for (column, local) in each_cell(object.columns_of(first_text(point.code)), point.targets()) {
+        if let Some(side) = other_side(condition, text_of(local))
+            && !point.changes(&index)
+            && object.stores_bits(column)
+        {
+            let cell = cell_at(alloc, column, &index)?;
+            return Ok(match side {
+                "0" => Some(format!(in alloc; "(- 1 {cell})")?),
+                "1" => Some(cell),
+                _ => None,
+            });
+        }
+    }
+    Ok(None)
+}
+
 /// A term that is 0 just where this condition does not hold, at a point that reads what it is on, if one is known.
 pub(crate) fn switch_at(
     alloc: Global,
@@ -130,5 +154,5 @@ pub(crate) fn switch_at(
             }));
         }
     }
-    Ok(None)
+    switch_read(alloc, object, point, condition)
 }

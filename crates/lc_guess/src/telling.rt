@@ -14,6 +14,7 @@ use crate::text::{
     each_cell, each_item, first_part, first_text, items_within, later, printed, push_each,
     push_parts, text_of, within_first,
 };
+use crate::trying::{is_stored_in, push_apart, push_tried};
 use lc_base::OutOfMemory;
 use lc_reading::{Part, behind_word};
 use lc_sexp::Cursor;
@@ -21,6 +22,9 @@ use std::alloc::Global;
 
 /// Facts of a body at most: code that has more is not looked into.
 const MOST_FACTS: usize = 64;
+
+/// Where facts are tried.
+const MOST_TRIED: usize = 128;
 
 /// The facts of a body, and the numbers of those that are known at each point, if a way leads there.
 #[derive(Drop)]
@@ -30,14 +34,14 @@ pub(crate) struct Told {
 }
 
 /// The number of a fact, which is entered if it is new; none if there are too many.
-fn number_of(facts: &mut Vec<Fact>, fact: Fact) -> Result<Option<usize>, OutOfMemory> {
+fn number_of(facts: &mut Vec<Fact>, fact: Fact, most: usize) -> Result<Option<usize>, OutOfMemory> {
     for (number, other) in facts.iter().enumerate() {
         if other.is_same(&fact) {
             return Ok(Some(number));
         }
     }
     let number = facts.len();
-    if number >= MOST_FACTS {
+    if number >= most {
         return Ok(None);
     }
     facts.push(fact)?;
@@ -87,8 +91,10 @@ fn with_row(
 ) -> Result<String, OutOfMemory> {
     let mut said = String::from_str(alloc, text)?;
     for (column, local) in each_cell(columns, targets) {
-        let cell = cell_at(alloc, column, index)?;
-        said = said.replace(alloc, cell.as_str(), text_of(local))?;
+        if !text_of(local).is_empty() {
+            let cell = cell_at(alloc, column, index)?;
+            said = said.replace(alloc, cell.as_str(), text_of(local))?;
+        }
     }
     Ok(said)
 }
@@ -119,7 +125,7 @@ fn push_read(alloc: Global, told: &mut Vec<String>, seen: Seen<'_, '_>) -> Resul
 }
 
 /// What a test tells at an edge.
-fn tested_at(
+pub(crate) fn tested_at(
     alloc: Global,
     point: &Point<'_>,
     edge: &Edge<'_>,
@@ -259,6 +265,9 @@ fn new_at(
     push_standing(alloc, &mut new, seen, stored)?;
     push_noted(alloc, &mut new, seen)?;
     push_posted(alloc, &mut new, seen)?;
+    if seen.body.is_tried() {
+        push_tried(alloc, &mut new, seen)?;
+    }
     Ok(new)
 }
 
@@ -279,7 +288,12 @@ fn staying(
             || is_refuted(alloc, &fact.premise, tested)?
             || is_passed(alloc, &condition, fact)?
             || is_reread(alloc, seen, fact)?;
-        if !is_settled && !fact.speaks_of(&seen.point.sets) && !fact.speaks_of(stored) {
+        let is_stored = if seen.body.is_tried() {
+            is_stored_in(alloc, seen, fact)?
+        } else {
+            fact.speaks_of(stored)
+        };
+        if !is_settled && !fact.speaks_of(&seen.point.sets) && !is_stored {
             numbers.push(*number)?;
         }
     }
@@ -308,36 +322,62 @@ fn founded(alloc: Global, facts: &[Fact], numbers: &[usize]) -> Result<Vec<usize
 /// The numbers of facts that are known behind an edge: those that stay, and the new ones.
 fn behind(
     alloc: Global,
+    body: Body<'_, '_>,
     facts: &mut Vec<Fact>,
     mut numbers: Vec<usize>,
     new: Vec<Fact>,
 ) -> Result<Vec<usize>, OutOfMemory> {
+    let most = if body.is_tried() {
+        MOST_TRIED
+    } else {
+        MOST_FACTS
+    };
     for fact in new {
-        if let Some(number) = number_of(facts, fact)? {
+        if let Some(number) = number_of(facts, fact, most)? {
             if !numbers.contains(&number) {
                 numbers.push(number)?;
             }
         }
     }
+    if body.is_tried() {
+        return Ok(numbers);
+    }
     founded(alloc, facts, &numbers)
 }
 
-/// Joins what is known behind an edge to what is known where it leads, and reports whether that is less than it was.
-fn join(known: &mut [Option<Vec<usize>>], next: usize, numbers: Vec<usize>) -> bool {
+/// Adds what is known behind an edge to what is tried where it leads, and reports whether that is more than it was.
+fn add(there: &mut Vec<usize>, numbers: &[usize]) -> Result<bool, OutOfMemory> {
+    let count = there.len();
+    for number in numbers {
+        if !there.contains(number) {
+            there.push(*number)?;
+        }
+    }
+    Ok(there.len() != count)
+}
+
+/// Joins what is known behind an edge to what is known where it leads, and reports whether that is another than it was: less, or more if it is tried.
+fn join(
+    known: &mut [Option<Vec<usize>>],
+    next: usize,
+    numbers: Vec<usize>,
+    is_tried: bool,
+) -> Result<bool, OutOfMemory> {
     let Some(there) = known.get_mut(next) else {
-        return false;
+        return Ok(false);
     };
-    match there {
+    Ok(match there {
         None => {
             *there = Some(numbers);
             true
         }
+        Some(before) if is_tried => add(before, &numbers)?,
         Some(before) => {
             let count = before.len();
             before.retain(|number| numbers.contains(number));
             before.len() != count
         }
-    }
+    })
 }
 
 /// The numbers of facts that are known behind an edge of a point, by those that are known at the point.
@@ -362,7 +402,7 @@ fn pass_edge<'a>(
     let stored = stored_at(alloc, seen)?;
     let numbers = staying(alloc, seen, &tested, &stored)?;
     let new = new_at(alloc, seen, tested, &stored)?;
-    behind(alloc, facts, numbers, new)
+    behind(alloc, body, facts, numbers, new)
 }
 
 /// Goes once along all edges, and reports whether anything else is known then.
@@ -382,7 +422,8 @@ fn pass<'a>(
             if let Some(next) = edge.next {
                 let at = (point, edge);
                 let numbers = pass_edge(alloc, body, ways, &mut told.facts, at, &known)?;
-                is_changed = join(&mut told.known, next, numbers) || is_changed;
+                let is_other = join(&mut told.known, next, numbers, body.is_tried())?;
+                is_changed = is_other || is_changed;
             }
         }
     }
@@ -401,7 +442,10 @@ pub(crate) fn tell<'a>(
     };
     let mut first = unposted(alloc, body, ways.points)?;
     first.append(&mut standing_first(alloc, body)?)?;
-    let first = behind(alloc, &mut told.facts, Vec::new(alloc), first)?;
+    if body.is_tried() {
+        push_apart(alloc, &mut first, body)?;
+    }
+    let first = behind(alloc, body, &mut told.facts, Vec::new(alloc), first)?;
     told.known.push(Some(first))?;
     for _ in 1..ways.points.len() {
         told.known.push(None)?;

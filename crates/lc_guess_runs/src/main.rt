@@ -4,7 +4,7 @@
 use anyhow::Context;
 use lc_base::Fault;
 use lc_fill::{Plan, fill};
-use lc_guess::guess;
+use lc_guess::{Reach, guess};
 use lc_sexp::Forms;
 use std::alloc::Global;
 use std::{env, fs};
@@ -13,7 +13,7 @@ use std::{env, fs};
 fn answer(alloc: Global, bytes: &[u8]) -> Result<Vec<u8>, Fault> {
     let forms = Forms::read(alloc, bytes)?;
     let bare = fill(alloc, &Plan::none(alloc)?, &forms)?;
-    let plan = guess(alloc, &forms, bare.lacking())?;
+    let plan = guess(alloc, &forms, bare.lacking(), Reach::Told)?;
     let text = fill(alloc, &plan, &forms)?.text(alloc)?;
     Ok(text)
 }

@@ -21,6 +21,8 @@ struct Row {
 pub(crate) struct Facts {
     points: Vec<Row>,
     actions: Vec<Row>,
+    /// How many actions are the user's. They come first.
+    written: usize,
     pub(crate) count: usize,
 }
 
@@ -35,6 +37,7 @@ impl Facts {
         let mut facts = Facts {
             points: Vec::new(alloc),
             actions: Vec::new(alloc),
+            written: written_actions(forms),
             count: 0,
         };
         for (point, outline) in development.parts().outlines.iter().enumerate() {
@@ -46,7 +49,7 @@ impl Facts {
             let row = facts.row(written, planned);
             facts.points.push(row)?;
         }
-        for _ in 0..written_actions(forms) {
+        for _ in 0..facts.written {
             let row = facts.row(0, 0);
             facts.actions.push(row)?;
         }
@@ -82,10 +85,8 @@ impl Facts {
 
     /// Whether an action is planned.
     pub(crate) fn is_planned(&self, action: ActionId) -> bool {
-        match self.actions.get(action.0 as usize) {
-            Some(row) => 0 < row.planned,
-            None => false,
-        }
+        let place = action.0 as usize;
+        self.written <= place && place < self.actions.len()
     }
 }
 

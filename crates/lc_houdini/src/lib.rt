@@ -2,6 +2,7 @@
 //! promised of what is left: what is completed by it is a development, whose conditions are to be proved.
 #![tactic(auto)]
 
+mod earlier;
 mod facts;
 mod goals;
 mod guards;
@@ -12,4 +13,4 @@ mod sifting;
 mod used;
 
 pub use guards::written_actions;
-pub use sifting::sifted;
+pub use sifting::{Sifted, sifted};

@@ -2,6 +2,7 @@
 ghost use Rattle.lc_cond.specs.ConditionView.{AreConditions, IsCondition};
 ghost use Rattle.lc_table.specs.Tables.{AreFormulas, IsFormula, Keeps};
 
+use crate::earlier::Earlier;
 use crate::facts::Facts;
 use crate::goals::{asking, conjuncts, formula_at, opened};
 use crate::marks::{is_set, marks};
@@ -152,17 +153,21 @@ fn facts_marked(
     Ok(marked)
 }
 
-/// What a goal needs.
+/// What a goal needs, if it is not known earlier.
 fn need_of(
     alloc: Global,
     terms: &Terms,
     view: View<'_>,
     entered: &[Asserted],
     sought: Sought<'_>,
+    earlier: &mut Earlier,
 ) -> Result<Need, OutOfMemory>
     requires hypotheses { AreFormulas terms.now sought.goal.now.hypotheses }
     requires goal { IsFormula terms.now sought.goal.now.goal }
 {
+    if let Some(known) = earlier.next(sought.asked) {
+        return Ok(known);
+    }
     let count = sought.goal.hypotheses.as_slice().len();
     let searched = search(alloc, terms, sought.goal, &[], &[], view.budget)?;
     let is_found = matches!(searched.end, End::Found(_));
@@ -185,6 +190,7 @@ fn push_guard(
     entered: &[Asserted],
     condition: &Condition,
     action: ActionId,
+    earlier: &mut Earlier,
     needs: &mut Vec<Need>,
 ) -> Result<(), OutOfMemory>
     requires { IsCondition terms.now condition.now }
@@ -199,7 +205,7 @@ fn push_guard(
             guard: None,
             asked: view.facts.guarding(action.0 as usize, conjunct),
         };
-        needs.push(need_of(alloc, terms, view, entered, sought)?)?;
+        needs.push(need_of(alloc, terms, view, entered, sought, earlier)?)?;
     }
     Ok(())
 }
@@ -213,6 +219,7 @@ fn need_against(
     condition: &Condition,
     action: usize,
     place: usize,
+    earlier: &mut Earlier,
 ) -> Result<Need, OutOfMemory>
     requires { IsCondition terms.now condition.now }
 {
@@ -223,7 +230,7 @@ fn need_against(
         guard: Some((action, place, count)),
         asked: view.ways.asked(view.facts, condition),
     };
-    need_of(alloc, terms, view, entered, sought)
+    need_of(alloc, terms, view, entered, sought, earlier)
 }
 
 /// Appends what a condition needs.
@@ -233,6 +240,7 @@ fn push_need(
     view: View<'_>,
     entered: &[Asserted],
     condition: &Condition,
+    earlier: &mut Earlier,
     needs: &mut Vec<Need>,
 ) -> Result<(), OutOfMemory>
     requires { IsCondition terms.now condition.now }
@@ -240,10 +248,14 @@ fn push_need(
     if let Some(action) = guarded(view.development, condition)
         && view.facts.is_planned(action)
     {
-        return push_guard(alloc, terms, view, entered, condition, action, needs);
+        return push_guard(
+            alloc, terms, view, entered, condition, action, earlier, needs,
+        );
     }
     if let Some((action, place)) = withstood(view.development, condition) {
-        let need = need_against(alloc, terms, view, entered, condition, action, place)?;
+        let need = need_against(
+            alloc, terms, view, entered, condition, action, place, earlier,
+        )?;
         needs.push(need)?;
         return Ok(());
     }
@@ -253,7 +265,7 @@ fn push_need(
         guard: None,
         asked: view.ways.asked(view.facts, condition),
     };
-    needs.push(need_of(alloc, terms, view, entered, sought)?)?;
+    needs.push(need_of(alloc, terms, view, entered, sought, earlier)?)?;
     Ok(())
 }
 
@@ -264,12 +276,13 @@ fn push_entered(
     view: View<'_>,
     entered: &[Asserted],
     conditions: &[Condition],
+    earlier: &mut Earlier,
     needs: &mut Vec<Need>,
 ) -> Result<(), OutOfMemory>
     requires { AreConditions terms.now conditions.now }
 {
     for condition in conditions {
-        push_need(alloc, terms, view, entered, condition, needs)?;
+        push_need(alloc, terms, view, entered, condition, earlier, needs)?;
     }
     Ok(())
 }
@@ -280,20 +293,23 @@ fn push_needs(
     terms: &mut Terms,
     view: View<'_>,
     conditions: &[Condition],
+    earlier: &mut Earlier,
     needs: &mut Vec<Need>,
 ) -> Result<(), OutOfMemory>
     requires { AreConditions terms.old conditions.now }
 {
     let entered = entered_for(alloc, terms, view.development, conditions)?;
-    push_entered(alloc, terms, view, &entered, conditions, needs)
+    push_entered(alloc, terms, view, &entered, conditions, earlier, needs)
 }
 
-/// What all conditions of a development need of the facts of a plan that completes it, where a proof of each is sought in at most `budget` steps.
+/// What all conditions of a development need of the facts of a plan that completes it, where a proof of each of which nothing is known earlier is
+/// sought in at most `budget` steps.
 pub(crate) fn needs_of(
     alloc: Global,
     development: &Development,
     facts: &Facts,
     budget: u64,
+    earlier: &mut Earlier,
 ) -> Result<Vec<Need>, OutOfMemory> {
     let ways = Ways::of(alloc, development)?;
     let view = View {
@@ -309,6 +325,6 @@ pub(crate) fn needs_of(
         let Some(conditions) = stream.next_part(development, &mut terms)? else {
             return Ok(needs);
         };
-        push_needs(alloc, &mut terms, view, &conditions, &mut needs)?;
+        push_needs(alloc, &mut terms, view, &conditions, earlier, &mut needs)?;
     }
 }

@@ -1,4 +1,5 @@
 //! Facts that do not hold, and those that nothing needs, are left out.
+use crate::earlier::Earlier;
 use crate::facts::Facts;
 use crate::guards::marked_actions;
 use crate::marks::{are_all, is_set, marks, set};
@@ -22,12 +23,13 @@ struct Round {
 }
 
 impl Round {
-    /// What is needed of the facts of a plan; nothing if what is completed by it is no development.
+    /// What is needed of the facts of a plan, where this is known earlier; nothing if what is completed by it is no development.
     fn of(
         alloc: Global,
         forms: &Forms,
         plan: &Plan,
         budget: u64,
+        mut earlier: Earlier,
     ) -> Result<Option<Round>, OutOfMemory> {
         let completion = match completed(alloc, plan, forms) {
             Ok(completion) => completion,
@@ -35,7 +37,7 @@ impl Round {
             Err(Fault::OutOfMemory) => return Err(OutOfMemory),
         };
         let facts = Facts::of(alloc, forms, plan, &completion.development)?;
-        let needs = needs_of(alloc, &completion.development, &facts, budget)?;
+        let needs = needs_of(alloc, &completion.development, &facts, budget, &mut earlier)?;
         Ok(Some(Round {
             count: facts.count,
             needs,
@@ -66,6 +68,19 @@ impl Round {
         Ok(holding)
     }
 
+    /// What is known of what is needed, if only the marked facts stay.
+    fn without(&self, alloc: Global, marks: &[bool]) -> Result<Earlier, OutOfMemory> {
+        let mut numbers = Vec::with_capacity(alloc, marks.len())?;
+        let mut count = 0usize;
+        for mark in marks {
+            numbers.push(if *mark { Some(count) } else { None })?;
+            if *mark {
+                count = count.saturating_add(1);
+            }
+        }
+        Earlier::of(alloc, &self.needs, &numbers)
+    }
+
     /// Marks the facts that are used for what is no guess, and for marked ones.
     fn needed(&self, alloc: Global) -> Result<Vec<bool>, OutOfMemory> {
         let mut needed = marks(alloc, self.count, false)?;
@@ -94,6 +109,13 @@ impl Round {
         }
         is_more
     }
+}
+
+/// A plan, with how many conditions have no proof that was found; none if none was sought.
+#[derive(Drop)]
+pub struct Sifted {
+    pub plan: Plan,
+    pub unfound: Option<usize>,
 }
 
 /// What is planned that may be left out.
@@ -140,41 +162,54 @@ fn least(
     plan: Plan,
     round: &Round,
     budget: u64,
-) -> Result<Plan, OutOfMemory> {
+) -> Result<Sifted, OutOfMemory> {
     let mut plan = plan;
+    let mut unfound = round.unfound();
     let needed = round.needed(alloc)?;
-    if are_all(&needed) {
-        return Ok(plan);
-    }
-    let fewer = marked_parts(alloc, &plan, &needed)?;
-    let all = exchange(&mut plan, fewer);
-    match Round::of(alloc, forms, &plan, budget)? {
-        Some(again) if again.unfound() <= round.unfound() => {}
-        _ => {
-            let _fewer = exchange(&mut plan, all);
+    if !are_all(&needed) {
+        let earlier = round.without(alloc, &needed)?;
+        let fewer = marked_parts(alloc, &plan, &needed)?;
+        let all = exchange(&mut plan, fewer);
+        match Round::of(alloc, forms, &plan, budget, earlier)? {
+            Some(again) if again.unfound() <= unfound => unfound = again.unfound(),
+            _ => {
+                let _fewer = exchange(&mut plan, all);
+            }
         }
     }
-    Ok(plan)
+    Ok(Sifted {
+        plan,
+        unfound: Some(unfound),
+    })
 }
 
 /// A plan for a short development with these forms, without the guessed facts of which a proof is not found in at most `budget` steps, and without
 /// those that nothing needs: what is asserted at points, and what guards of actions ask for. What is planned else stays, and so does all if the budget is
 /// 0, or no development is completed by the plan.
-pub fn sifted(alloc: Global, forms: &Forms, plan: Plan, budget: u64) -> Result<Plan, OutOfMemory> {
+pub fn sifted(
+    alloc: Global,
+    forms: &Forms,
+    plan: Plan,
+    budget: u64,
+) -> Result<Sifted, OutOfMemory> {
     let mut plan = plan;
-    if budget == 0 {
-        return Ok(plan);
-    }
-    for _ in 0..ROUNDS {
-        let Some(round) = Round::of(alloc, forms, &plan, budget)? else {
-            return Ok(plan);
+    let mut earlier = Earlier::none(alloc);
+    let rounds = if budget == 0 { 0 } else { ROUNDS };
+    for _ in 0..rounds {
+        let known = mem::replace(&mut earlier, Earlier::none(alloc));
+        let Some(round) = Round::of(alloc, forms, &plan, budget, known)? else {
+            break;
         };
         let holding = round.holding(alloc)?;
         if are_all(&holding) {
             return least(alloc, forms, plan, &round, budget);
         }
+        earlier = round.without(alloc, &holding)?;
         let fewer = marked_parts(alloc, &plan, &holding)?;
         let _all = exchange(&mut plan, fewer);
     }
-    Ok(plan)
+    Ok(Sifted {
+        plan,
+        unfound: None,
+    })
 }
