@@ -1,8 +1,8 @@
 //! What is looked at of an object.
 use crate::changes::{Change, Column, find_columns, is_of_bits, stores_bits};
 use crate::text::{
-    each_item, first_text, items_within, later, mentions, printed, printed_first, push_each,
-    push_parts,
+    each_item, first_part, first_text, items_within, later, mentions, printed, printed_first,
+    push_each, push_parts,
 };
 use lc_base::OutOfMemory;
 use lc_reading::{NameTable, Part, behind_word, next_part};
@@ -31,6 +31,8 @@ pub(crate) struct Object<'a> {
     pub(crate) equations: Vec<String>,
     /// What it leaves open.
     pub(crate) choices: Vec<Choice>,
+    /// What it claims where something holds.
+    pub(crate) implied: Vec<Implied>,
     /// The claims for all numbers, `V F`, of the beginning of it.
     pub(crate) general: Vec<Cursor<'a>>,
     /// What holds of idle clients.
@@ -53,6 +55,7 @@ impl Drop for Object<'_> {
             claims: _,
             equations: _,
             choices: _,
+            implied: _,
             general: _,
             idle: _,
             idle_atoms: _,
@@ -67,6 +70,35 @@ impl Drop for Object<'_> {
 pub(crate) struct Choice {
     pub(crate) first: String,
     pub(crate) text: String,
+}
+
+/// What is claimed where a premise holds.
+#[derive(Drop)]
+pub(crate) struct Implied {
+    pub(crate) premise: String,
+    pub(crate) claims: Vec<String>,
+}
+
+/// Appends what a conjunct `(NAME F)` claims where a premise holds.
+fn push_implied(
+    alloc: Global,
+    implied: &mut Vec<Implied>,
+    conjunct: Part<'_>,
+) -> Result<(), OutOfMemory> {
+    for formula in each_item(later(items_within(conjunct))) {
+        if let Ok(parts) = behind_word(formula, "=>")
+            && let Some(claim) = first_part(later(parts))
+            && implied.len() < MOST_CLAIMS
+        {
+            let mut claims = Vec::new(alloc);
+            push_parts(alloc, &mut claims, claim)?;
+            implied.push(Implied {
+                premise: printed_first(alloc, parts)?,
+                claims,
+            })?;
+        }
+    }
+    Ok(())
 }
 
 /// Appends what a conjunct `(NAME F)` leaves open.
@@ -170,6 +202,7 @@ impl<'a> Object<'a> {
         let mut claims = Vec::new(alloc);
         let mut equations = Vec::new(alloc);
         let mut choices = Vec::new(alloc);
+        let mut implied = Vec::new(alloc);
         let mut general = Vec::new(alloc);
         let mut idle = Vec::new(alloc);
         let mut idle_atoms = Vec::new(alloc);
@@ -192,6 +225,7 @@ impl<'a> Object<'a> {
                     for conjunct in each_item(behind) {
                         push_claims(alloc, &mut claims, conjunct)?;
                         push_choices(alloc, &mut choices, conjunct)?;
+                        push_implied(alloc, &mut implied, conjunct)?;
                         push_general(&mut general, conjunct)?;
                     }
                 }
@@ -207,6 +241,7 @@ impl<'a> Object<'a> {
             claims,
             equations,
             choices,
+            implied,
             general,
             idle,
             idle_atoms,

@@ -67,6 +67,30 @@ fn push_marked<'a>(
     Ok(())
 }
 
+/// Appends the updates of marks of the own call at an edge.
+fn push_marks<'a>(
+    alloc: Global,
+    puts: &mut Vec<Put<'a>>,
+    seen: Seen<'a, '_>,
+) -> Result<(), OutOfMemory> {
+    for rider in each_item(seen.edge.riders) {
+        push_marked(alloc, puts, seen, items_within(rider))?;
+    }
+    Ok(())
+}
+
+/// A text of the state before these updates, in which terms are said that they store, said of the state after them.
+fn said_behind(alloc: Global, text: &str, marked: &[Put<'_>]) -> Result<String, OutOfMemory> {
+    let mut said = String::from_str(alloc, text)?;
+    for put in marked {
+        if put.value.starts_with("(") {
+            let cell = cell_at(alloc, put.column, &put.index)?;
+            said = said.replace(alloc, put.value.as_str(), cell.as_str())?;
+        }
+    }
+    Ok(said)
+}
+
 /// What is stored at an edge: by the instruction, by riders, and by marks of the own call.
 fn put_at<'a>(alloc: Global, seen: Seen<'a, '_>) -> Result<Vec<Put<'a>>, OutOfMemory> {
     let mut puts = Vec::new(alloc);
@@ -78,11 +102,11 @@ fn put_at<'a>(alloc: Global, seen: Seen<'a, '_>) -> Result<Vec<Put<'a>>, OutOfMe
         })?;
     }
     for rider in each_item(seen.edge.riders) {
-        match behind_word(rider, "set") {
-            Ok(set) => push_update(alloc, &mut puts, set)?,
-            Err(_) => push_marked(alloc, &mut puts, seen, items_within(rider))?,
+        if let Ok(set) = behind_word(rider, "set") {
+            push_update(alloc, &mut puts, set)?;
         }
     }
+    push_marks(alloc, &mut puts, seen)?;
     Ok(puts)
 }
 
@@ -174,8 +198,12 @@ fn push_loaded(alloc: Global, told: &mut Vec<Fact>, seen: Seen<'_, '_>) -> Resul
 
 /// Appends what is stored at an edge, and what holds of idle clients, or does not, of these columns.
 fn push_stored(alloc: Global, told: &mut Vec<Fact>, seen: Seen<'_, '_>) -> Result<(), OutOfMemory> {
+    let mut marked = Vec::new(alloc);
+    push_marks(alloc, &mut marked, seen)?;
     for put in &put_at(alloc, seen)? {
-        push_held(alloc, told, put.column, &put.index, &put.value)?;
+        let index = said_behind(alloc, &put.index, &marked)?;
+        let value = said_behind(alloc, &put.value, &marked)?;
+        push_held(alloc, told, put.column, &index, &value)?;
         push_grown(alloc, told, seen, put.column, &put.index, &put.value)?;
         for atom in &seen.body.object.idle_atoms {
             if has_word(atom, &[put.column]) {
@@ -287,6 +315,24 @@ fn push_added(alloc: Global, told: &mut Vec<Fact>, seen: Seen<'_, '_>) -> Result
     Ok(())
 }
 
+/// Appends what the invariant claims where something holds that a `cas` may have made.
+fn push_implied(
+    alloc: Global,
+    told: &mut Vec<Fact>,
+    seen: Seen<'_, '_>,
+) -> Result<(), OutOfMemory> {
+    for implied in &seen.body.object.implied {
+        for column in each_item(seen.columns()) {
+            if has_word(&implied.premise, &[first_text(items_within(column))]) {
+                for claim in &implied.claims {
+                    told.push(Fact::plain(alloc, claim.clone()?))?;
+                }
+            }
+        }
+    }
+    Ok(())
+}
+
 /// Appends what is tried behind an edge.
 pub(crate) fn push_tried(
     alloc: Global,
@@ -300,6 +346,7 @@ pub(crate) fn push_tried(
         }
         "faa" => push_added(alloc, told, seen)?,
         "if" => push_split(alloc, told, seen)?,
+        "cas" if seen.edge.word == "then" => push_implied(alloc, told, seen)?,
         _ => {}
     }
     push_marked_when(alloc, told, seen)?;
