@@ -203,9 +203,12 @@ impl<'a> Place<'a, '_> {
         Ok(())
     }
 
-    /// Whether all locals that a fact speaks of may still be looked at.
+    /// Whether all locals that a fact speaks of may still be looked at. What is tried may tie cells by others.
     fn is_living(self, fact: &Fact) -> bool {
         let living = &self.known.living;
+        if self.body.is_tried() {
+            return true;
+        }
         living.has_all(self.body, self.place, &fact.premise)
             && living.has_all(self.body, self.place, &fact.claim)
     }

@@ -203,7 +203,9 @@ fn push_stored(alloc: Global, told: &mut Vec<Fact>, seen: Seen<'_, '_>) -> Resul
     for put in &put_at(alloc, seen)? {
         let index = said_behind(alloc, &put.index, &marked)?;
         let value = said_behind(alloc, &put.value, &marked)?;
-        push_held(alloc, told, put.column, &index, &value)?;
+        if value.as_str() != cell_at(alloc, put.column, &index)?.as_str() {
+            push_held(alloc, told, put.column, &index, &value)?;
+        }
         push_grown(alloc, told, seen, put.column, &put.index, &put.value)?;
         for atom in &seen.body.object.idle_atoms {
             if has_word(atom, &[put.column]) {
