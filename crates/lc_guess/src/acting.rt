@@ -289,6 +289,9 @@ pub(crate) fn action_of<'a>(
 ) -> Result<Option<Guessed>, OutOfMemory> {
     let arguments = body.operation.arguments;
     let mut scope = Scope::new(alloc, arguments, "self", body.locals, body.is_tried())?;
+    if body.is_tried() {
+        scope.stores_here = Some(edge.is_storing(point));
+    }
     let mut deeds = Deeds {
         stores: Stores::new(alloc),
         switch: None,

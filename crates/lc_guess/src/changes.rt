@@ -265,3 +265,59 @@ pub(crate) fn stores_bits(parts: Cursor<'_>, name: &str) -> bool {
     }
     true
 }
+
+/// Whether an instruction stores a sum in the column at a place of an array.
+fn puts_sum(instruction: Cursor<'_>, array: &str, place: usize) -> bool {
+    let code = later(instruction);
+    if first_text(code) != array {
+        return false;
+    }
+    let values = match first_text(instruction) {
+        "store" => within_first(later(later(code))),
+        "cas" => within_first(later(later(later(code)))),
+        _ => Cursor::empty(),
+    };
+    for (at, value) in each_numbered(values) {
+        if at == place && first_text(items_within(value)) == "+" {
+            return true;
+        }
+    }
+    false
+}
+
+/// Whether a column of an array only grows, or a sum is stored in it, in an object with these parts.
+pub(crate) fn may_grow(parts: Cursor<'_>, columns: &[Column<'_>], name: &str) -> bool {
+    let mut place = 0usize;
+    let mut array = "";
+    for column in columns {
+        place = if column.array == array {
+            place.saturating_add(1)
+        } else {
+            0
+        };
+        array = column.array;
+        if column.name == name {
+            return column.change == Change::Growing || any_puts_sum(parts, array, place);
+        }
+    }
+    false
+}
+
+/// Whether a sum is stored in the column at a place of an array, in an object with these parts.
+fn any_puts_sum(parts: Cursor<'_>, array: &str, place: usize) -> bool {
+    for part in each_item(parts) {
+        let Ok(body) = behind_word(part, "body") else {
+            continue;
+        };
+        for point in each_item(later(later(body))) {
+            if puts_sum(
+                within_first(later(later(items_within(point)))),
+                array,
+                place,
+            ) {
+                return true;
+            }
+        }
+    }
+    false
+}

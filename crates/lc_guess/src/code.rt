@@ -27,6 +27,28 @@ pub(crate) struct Edge<'a> {
     pub(crate) riders: Cursor<'a>,
 }
 
+impl Edge<'_> {
+    /// Whether the instruction of its point stores something here other than what it expects.
+    pub(crate) fn is_storing(&self, point: &Point<'_>) -> bool {
+        if point.word == "cas" {
+            let expected = later(later(point.code));
+            return self.word == "then"
+                && !is_same_row(within_first(expected), within_first(later(expected)));
+        }
+        stores(point.word, self.word)
+    }
+}
+
+/// Whether these are the same names and numbers.
+fn is_same_row(one: Cursor<'_>, other: Cursor<'_>) -> bool {
+    for (left, right) in each_item(one).zip(each_item(other)) {
+        if text_of(left).is_empty() || text_of(left) != text_of(right) {
+            return false;
+        }
+    }
+    true
+}
+
 /// A point.
 #[derive(Drop)]
 pub(crate) struct Point<'a> {

@@ -122,15 +122,21 @@ fn put_mark<'a>(
     Ok(())
 }
 
-/// The branch of a mark: of the choice that it names, or the only one that may be what is returned.
+/// The branch of a mark: of the choice that it names, or the only one that may be what is returned; else, where it is tried, the first of these
+/// that stores something if the instruction does.
 pub(crate) fn branch_of<'a>(
     operation: Operation<'a>,
     choice: Option<&str>,
     returned: Cursor<'_>,
+    stores: Option<bool>,
 ) -> Option<Branch<'a>> {
-    match choice {
-        Some(name) => operation.choice(name),
-        None => operation.only_branch(returned),
+    if let Some(name) = choice {
+        return operation.choice(name);
+    }
+    let only = operation.only_branch(returned);
+    match stores {
+        Some(stores) if only.is_none() => operation.likely_branch(returned, stores),
+        _ => only,
     }
 }
 
@@ -151,9 +157,10 @@ fn own_mark<'a>(
     is_named: bool,
     is_note: bool,
     returned: Cursor<'_>,
+    stores: Option<bool>,
 ) -> Result<Option<Mark<'a>>, OutOfMemory> {
     let choice = choice_in(rest, is_named);
-    let Some(branch) = branch_of(body.operation, choice, returned) else {
+    let Some(branch) = branch_of(body.operation, choice, returned, stores) else {
         return Ok(None);
     };
     Ok(Some(Mark {
@@ -178,7 +185,7 @@ fn other_mark<'a>(
         return Ok(None);
     };
     let choice = choice_in(later(behind), is_named);
-    let Some(branch) = branch_of(operation, choice, Cursor::empty()) else {
+    let Some(branch) = branch_of(operation, choice, Cursor::empty(), scope.stores_here) else {
         return Ok(None);
     };
     let client = scope.said_first(rest)?;
@@ -197,13 +204,14 @@ fn mark_in<'a>(
     body: Body<'a, '_>,
     rider: Cursor<'a>,
     returned: Cursor<'_>,
+    stores: Option<bool>,
 ) -> Result<Option<Mark<'a>>, OutOfMemory> {
     let rest = later(rider);
     match first_text(rider) {
-        "lin" => own_mark(alloc, body, rest, false, false, returned),
-        "lin-by" => own_mark(alloc, body, rest, true, false, returned),
-        "note" => own_mark(alloc, body, rest, false, true, returned),
-        "note-by" => own_mark(alloc, body, rest, true, true, returned),
+        "lin" => own_mark(alloc, body, rest, false, false, returned, stores),
+        "lin-by" => own_mark(alloc, body, rest, true, false, returned, stores),
+        "note" => own_mark(alloc, body, rest, false, true, returned, stores),
+        "note-by" => own_mark(alloc, body, rest, true, true, returned, stores),
         _ => Ok(None),
     }
 }
@@ -239,7 +247,14 @@ fn put_when<'a>(
     rest: Cursor<'a>,
     returned: Cursor<'_>,
 ) -> Result<bool, OutOfMemory> {
-    let Some(mark) = mark_in(alloc, body, within_first(later(rest)), returned)? else {
+    let Some(mark) = mark_in(
+        alloc,
+        body,
+        within_first(later(rest)),
+        returned,
+        scope.stores_here,
+    )?
+    else {
         return Ok(false);
     };
     if !mark.branch.updates.is_empty() || deeds.switch.is_some() || scope.locals.contains(TAKER) {
@@ -276,7 +291,7 @@ fn put_rider<'a>(
         "when" => return put_when(alloc, scope, deeds, body, point, rest, returned),
         "lin-other" => other_mark(alloc, scope, body, rest, false)?,
         "lin-other-by" => other_mark(alloc, scope, body, rest, true)?,
-        _ => mark_in(alloc, body, parts, returned)?,
+        _ => mark_in(alloc, body, parts, returned, scope.stores_here)?,
     };
     match mark {
         Some(mark) => {

@@ -119,7 +119,7 @@ fn push_rider(
         "note-by" => Some(first_text(later(rider))),
         _ => return Ok(()),
     };
-    match branch_of(seen.body.operation, choice, returned) {
+    match branch_of(seen.body.operation, choice, returned, seen.stores()) {
         Some(branch) => push_branch(alloc, told, seen, condition, branch),
         None => Ok(()),
     }

@@ -1,5 +1,5 @@
 //! What is looked at of an object.
-use crate::changes::{Change, Column, find_columns, is_of_bits, stores_bits};
+use crate::changes::{Change, Column, find_columns, is_of_bits, may_grow, stores_bits};
 use crate::text::{
     each_item, first_part, first_text, items_within, later, mentions, printed, printed_first,
     push_each, push_parts,
@@ -269,6 +269,11 @@ impl<'a> Object<'a> {
             }
         }
         Change::Other
+    }
+
+    /// Whether a sum is stored in a column, or something added.
+    pub(crate) fn may_grow(&self, name: &str) -> bool {
+        may_grow(self.parts, &self.changes, name)
     }
 
     /// Whether each cell of a column of an array is 0 or 1.

@@ -41,6 +41,8 @@ pub(crate) struct Scope<'a, 'b> {
     pub(crate) lost: Vec<&'a str>,
     /// Whether one of them was to be said, or more locals than an action has parameters.
     pub(crate) is_unsaid: bool,
+    /// Whether the instruction stores something, where it is tried what marks do.
+    pub(crate) stores_here: Option<bool>,
     /// Whether a cell of which it is not known whether something was stored in it is said as it was before.
     pub(crate) is_tried: bool,
     /// The locals that were said, which become parameters.
@@ -75,6 +77,7 @@ impl<'a, 'b> Scope<'a, 'b> {
             given: Vec::new(alloc),
             lost: Vec::new(alloc),
             is_unsaid: false,
+            stores_here: None,
             is_tried,
             used: Vec::new(alloc),
         })

@@ -82,6 +82,15 @@ impl<'a, 'b> Seen<'a, 'b> {
         each_cell(self.columns(), self.point.targets())
     }
 
+    /// Whether the instruction stores something at the edge, where it is tried what marks do.
+    pub(crate) fn stores(self) -> Option<bool> {
+        if self.body.is_tried() {
+            Some(self.edge.is_storing(self.point))
+        } else {
+            None
+        }
+    }
+
     /// The point to which the edge leads.
     pub(crate) fn next(self) -> Option<&'b Point<'a>> {
         self.ways.points.get(self.edge.next?)

@@ -162,4 +162,15 @@ impl<'a> Operation<'a> {
         }
         only
     }
+
+    /// The first branch that may be what these terms return and stores something, or stores nothing.
+    pub(crate) fn likely_branch(self, returned: Cursor<'_>, stores: bool) -> Option<Branch<'a>> {
+        for part in each_item(self.branches) {
+            let branch = branch_in(part);
+            if may_be(branch.replies, returned) && branch.updates.is_empty() != stores {
+                return Some(branch);
+            }
+        }
+        None
+    }
 }

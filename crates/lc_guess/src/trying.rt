@@ -1,13 +1,13 @@
 //! Facts that are tried where those that the text tells do not suffice. Whether others make them false is not looked at: what does not hold is for
 //! lc_houdini to leave out.
-use crate::changes::Change;
+use crate::code::Point;
 use crate::fact::{Basis, Fact};
 use crate::formula::{cell_at, has_word, holds, negated, other_side};
 use crate::marking::{branch_of, reply_column};
 use crate::seen::{Body, Seen};
 use crate::text::{
-    each_cell, each_item, each_numbered, first_text, items_within, later, printed, printed_first,
-    text_of, within_first,
+    each_cell, each_item, each_numbered, first_text, items_within, later, mentions, printed,
+    printed_first, text_of, within_first,
 };
 use lc_base::OutOfMemory;
 use lc_reading::behind_word;
@@ -59,7 +59,7 @@ fn push_marked<'a>(
         _ => return Ok(()),
     };
     let returned = seen.ways.returned(alloc, seen.edge.next, "")?;
-    if let Some(branch) = branch_of(seen.body.operation, choice, returned) {
+    if let Some(branch) = branch_of(seen.body.operation, choice, returned, seen.stores()) {
         for update in each_item(branch.updates) {
             push_update(alloc, puts, items_within(update))?;
         }
@@ -146,7 +146,7 @@ fn push_held(
     Ok(())
 }
 
-/// Appends that a column that only grows is not below a number of this text.
+/// Appends that a column that may only grow is not below a number of this text.
 fn push_grown(
     alloc: Global,
     told: &mut Vec<Fact>,
@@ -155,9 +155,55 @@ fn push_grown(
     index: &str,
     number: &str,
 ) -> Result<(), OutOfMemory> {
-    if seen.body.object.change(column) == Change::Growing {
+    if seen.body.object.may_grow(column) {
         let claim = format!(in alloc; "(<= {number} (rd {column} {index}))")?;
         told.push(Fact::plain(alloc, claim))?;
+    }
+    Ok(())
+}
+
+/// Whether items mention one of these names.
+fn mentions_any(list: Cursor<'_>, names: &[&str]) -> bool {
+    for name in names {
+        if mentions(list, name) {
+            return true;
+        }
+    }
+    false
+}
+
+/// Whether a row that a `cas` expects is of cells that are not read at an edge, and of locals that are not set there.
+fn is_apart(seen: Seen<'_, '_>, cas: &Point<'_>) -> bool {
+    first_text(cas.code) != first_text(seen.point.code) && !mentions_any(cas.code, &seen.point.sets)
+}
+
+/// That a row is as a `cas` expects it.
+fn expected_row(alloc: Global, body: Body<'_, '_>, cas: &Point<'_>) -> Result<String, OutOfMemory> {
+    let index = cas.index(alloc)?;
+    let expected = within_first(later(later(cas.code)));
+    let mut premise = String::from_str(alloc, "(and")?;
+    for (column, term) in each_cell(body.object.columns_of(first_text(cas.code)), expected) {
+        let term = printed(alloc, term)?;
+        premise.push_str(" ")?;
+        premise.push_str(&holds(alloc, column, &index, &term)?)?;
+    }
+    premise.push_str(")")?;
+    Ok(premise)
+}
+
+/// Appends that what is read stays while a row is as a later `cas` expects it.
+fn push_while(
+    alloc: Global,
+    told: &mut Vec<Fact>,
+    seen: Seen<'_, '_>,
+    claim: &str,
+) -> Result<(), OutOfMemory> {
+    for cas in seen.ways.points.iter() {
+        if cas.word == "cas" && is_apart(seen, cas) {
+            let premise = expected_row(alloc, seen.body, cas)?;
+            let claim = String::from_str(alloc, claim)?;
+            told.push(Fact::under(alloc, premise, claim, Basis::Stays))?;
+        }
     }
     Ok(())
 }
@@ -189,7 +235,9 @@ fn push_loaded(alloc: Global, told: &mut Vec<Fact>, seen: Seen<'_, '_>) -> Resul
     for (column, local) in seen.cells_read() {
         let local = text_of(local);
         let cell = cell_at(alloc, column, &index)?;
-        told.push(Fact::plain(alloc, holds(alloc, column, &index, local)?))?;
+        let claim = holds(alloc, column, &index, local)?;
+        push_while(alloc, told, seen, &claim)?;
+        told.push(Fact::plain(alloc, claim))?;
         push_grown(alloc, told, seen, column, &index, local)?;
         push_equal(alloc, told, seen, &cell, local)?;
     }
