@@ -7,4 +7,5 @@ mod making;
 mod noting;
 
 pub use laws::what_is_made_is_read_back;
+pub use lc_houdini::{Rounds, Silent};
 pub use making::{Made, complete};

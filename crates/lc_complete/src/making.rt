@@ -13,7 +13,7 @@ use crate::noting::noted;
 use lc_base::{Fault, OutOfMemory};
 use lc_fill::Plan;
 use lc_guess::{Reach, guess};
-use lc_houdini::{Sifted, sifted};
+use lc_houdini::{Rounds, Sifted, sifted};
 use lc_layout::lay_out;
 use lc_outline::Development;
 use lc_sexp::Forms;
@@ -74,32 +74,34 @@ fn shown(alloc: Global, text: &[u8], forms: &Forms, plan: &Plan) -> Result<Vec<u
 }
 
 /// What is guessed so far for a short development with these forms, in which these places lack calls, and stays.
-fn planned_by(
+fn planned_by<R: Rounds>(
     alloc: Global,
     forms: &Forms,
     lacking: &[u64],
     reach: Reach,
     budget: u64,
+    rounds: &mut R,
 ) -> Result<Sifted, OutOfMemory> {
     let guessed = guess(alloc, forms, lacking, reach)?;
-    sifted(alloc, forms, guessed, budget)
+    sifted(alloc, forms, guessed, budget, rounds)
 }
 
 /// What is planned: what is told, if all conditions have proofs then; else also what is tried, if more of them have.
-fn planned(
+fn planned<R: Rounds>(
     alloc: Global,
     forms: &Forms,
     lacking: &[u64],
     budget: u64,
+    rounds: &mut R,
 ) -> Result<Plan, OutOfMemory> {
-    let Sifted { plan, unfound } = planned_by(alloc, forms, lacking, Reach::Told, budget)?;
+    let Sifted { plan, unfound } = planned_by(alloc, forms, lacking, Reach::Told, budget, rounds)?;
     let Some(count) = unfound else {
         return Ok(plan);
     };
     if count == 0 {
         return Ok(plan);
     }
-    let tried = planned_by(alloc, forms, lacking, Reach::Tried, budget)?;
+    let tried = planned_by(alloc, forms, lacking, Reach::Tried, budget, rounds)?;
     match tried.unfound {
         Some(fewer) if fewer < count => Ok(tried.plan),
         _ => Ok(plan),
@@ -107,15 +109,21 @@ fn planned(
 }
 
 /// The short development of the file with these forms, made whole. Guessed facts of which no proof is found in at most `budget` steps, and those
-/// that nothing needs, are left out. What was guessed need not hold: whether all conditions of the development are valid is for the finder to say.
+/// that nothing needs, are left out, round by round, as is reported to `rounds`. What was guessed need not hold: whether all conditions of the
+/// development are valid is for the finder to say.
 ///
 /// If the file is no short development, `Refused` has its first refusal, as of `lc_short::short_in`. If it is one, and its text is not within the limits
 /// with what was left out put in, `Refused` has the first refusal of that text.
-pub fn complete(alloc: Global, forms: &Forms, budget: u64) -> Result<Made, Fault>
+pub fn complete<R: Rounds>(
+    alloc: Global,
+    forms: &Forms,
+    budget: u64,
+    rounds: &mut R,
+) -> Result<Made, Fault>
     ensures { (bytes : List ℕ) → ReadsAs bytes forms.now → IsAnswer bytes result }
 {
     let short = short_in(alloc, forms)?;
-    let mut plan = planned(alloc, forms, short.lacking(), budget)?;
+    let mut plan = planned(alloc, forms, short.lacking(), budget, rounds)?;
     let completion = completed_by(alloc, forms, &mut plan)?;
     let text = shown(alloc, &completion.text, forms, &plan)?;
     let Completion { development, .. } = completion;

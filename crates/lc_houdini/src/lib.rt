@@ -8,9 +8,11 @@ mod goals;
 mod guards;
 mod marks;
 mod needs;
+mod rounds;
 mod searching;
 mod sifting;
 mod used;
 
 pub use guards::written_actions;
+pub use rounds::{Rounds, Silent};
 pub use sifting::{Sifted, sifted};

@@ -4,6 +4,7 @@ use crate::facts::Facts;
 use crate::guards::marked_actions;
 use crate::marks::{are_all, is_set, marks, set};
 use crate::needs::Need;
+use crate::rounds::Rounds;
 use crate::searching::needs_of;
 use lc_base::{Fault, OutOfMemory};
 use lc_fill::{Plan, Planned};
@@ -24,12 +25,13 @@ struct Round {
 
 impl Round {
     /// What is needed of the facts of a plan, where this is known earlier; nothing if what is completed by it is no development.
-    fn of(
+    fn of<R: Rounds>(
         alloc: Global,
         forms: &Forms,
         plan: &Plan,
         budget: u64,
         mut earlier: Earlier,
+        rounds: &mut R,
     ) -> Result<Option<Round>, OutOfMemory> {
         let completion = match completed(alloc, plan, forms) {
             Ok(completion) => completion,
@@ -37,6 +39,7 @@ impl Round {
             Err(Fault::OutOfMemory) => return Err(OutOfMemory),
         };
         let facts = Facts::of(alloc, forms, plan, &completion.development)?;
+        rounds.begins(facts.count);
         let needs = needs_of(alloc, &completion.development, &facts, budget, &mut earlier)?;
         Ok(Some(Round {
             count: facts.count,
@@ -156,12 +159,13 @@ fn exchange(plan: &mut Plan, parts: Parts) -> Parts {
 }
 
 /// A plan without the facts that nothing needs, unless fewer proofs are found without them.
-fn least(
+fn least<R: Rounds>(
     alloc: Global,
     forms: &Forms,
     plan: Plan,
     round: &Round,
     budget: u64,
+    rounds: &mut R,
 ) -> Result<Sifted, OutOfMemory> {
     let mut plan = plan;
     let mut unfound = round.unfound();
@@ -170,7 +174,7 @@ fn least(
         let earlier = round.without(alloc, &needed)?;
         let fewer = marked_parts(alloc, &plan, &needed)?;
         let all = exchange(&mut plan, fewer);
-        match Round::of(alloc, forms, &plan, budget, earlier)? {
+        match Round::of(alloc, forms, &plan, budget, earlier, rounds)? {
             Some(again) if again.unfound() <= unfound => unfound = again.unfound(),
             _ => {
                 let _fewer = exchange(&mut plan, all);
@@ -185,24 +189,25 @@ fn least(
 
 /// A plan for a short development with these forms, without the guessed facts of which a proof is not found in at most `budget` steps, and without
 /// those that nothing needs: what is asserted at points, and what guards of actions ask for. What is planned else stays, and so does all if the budget is
-/// 0, or no development is completed by the plan.
-pub fn sifted(
+/// 0, or no development is completed by the plan. Each round is reported to `rounds`.
+pub fn sifted<R: Rounds>(
     alloc: Global,
     forms: &Forms,
     plan: Plan,
     budget: u64,
+    rounds: &mut R,
 ) -> Result<Sifted, OutOfMemory> {
     let mut plan = plan;
     let mut earlier = Earlier::none(alloc);
-    let rounds = if budget == 0 { 0 } else { ROUNDS };
-    for _ in 0..rounds {
+    let most = if budget == 0 { 0 } else { ROUNDS };
+    for _ in 0..most {
         let known = mem::replace(&mut earlier, Earlier::none(alloc));
-        let Some(round) = Round::of(alloc, forms, &plan, budget, known)? else {
+        let Some(round) = Round::of(alloc, forms, &plan, budget, known, rounds)? else {
             break;
         };
         let holding = round.holding(alloc)?;
         if are_all(&holding) {
-            return least(alloc, forms, plan, &round, budget);
+            return least(alloc, forms, plan, &round, budget, rounds);
         }
         earlier = round.without(alloc, &holding)?;
         let fewer = marked_parts(alloc, &plan, &holding)?;

@@ -8,7 +8,7 @@ ghost use Rattle.lc_reading.specs.Files.{Says};
 ghost use Rattle.lc_sexp.specs.Reads.{ReadsAs};
 
 use lc_base::Fault;
-use lc_complete::{Made, complete, what_is_made_is_read_back};
+use lc_complete::{Made, Silent, complete, what_is_made_is_read_back};
 use lc_sexp::Forms;
 use std::alloc::Global;
 
@@ -16,7 +16,8 @@ use std::alloc::Global;
 pub fn making_a_development_whole(alloc: Global, forms: &Forms, budget: u64) -> Result<Made, Fault>
     ensures { (bytes : List ℕ) → ReadsAs bytes forms.now → IsAnswer bytes result }
 {
-    complete(alloc, forms, budget)
+    let mut silent = Silent;
+    complete(alloc, forms, budget, &mut silent)
 }
 
 /// What is made says the development that completes the file, comments and all.

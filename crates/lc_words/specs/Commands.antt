@@ -117,9 +117,9 @@ order_word_app = with_rule (with_rule (with_rule (new_app (codes "order")) (file
 abbrev pub order_app : App
 order_app = explained (with_rule order_word_app (number_rule (codes "budget")))
 
--- `complete SHORT [--budget N] [--quiet] [--explain]`
+-- `complete SHORT [--budget N] [--progress] [--quiet] [--explain]`
 abbrev pub complete_app : App
-complete_app = explained (with_rule (with_rule (new_app (codes "complete")) (file_rule (codes "SHORT"))) (number_rule (codes "budget")))
+complete_app = explained (with_rule (with_rule (with_rule (new_app (codes "complete")) (file_rule (codes "SHORT"))) (number_rule (codes "budget"))) (flag_rule (codes "progress")))
 
 -- a command of this name that has a version and needs a subcommand
 abbrev pub needs_subcommand : Text → App

@@ -108,7 +108,7 @@ task_of (Draw development history shown) = DrawHistory development.now history.n
 task_of (New name) = BeginDevelopment name.now
 task_of (Library lib text) = PrintLibrary lib text
 task_of (Order development history check budget) = FindOrder development.now history.now check budget
-task_of (Complete short budget) = MakeWhole short.now budget
+task_of (Complete short budget progress) = MakeWhole short.now budget
 
 -- the texts of the words
 abbrev pub texts_of : List (String Global) → List Text

@@ -84,7 +84,12 @@ fn complete_request<'a>(command: &ArgMatches<'a>) -> Option<Request<'a>>
 {
     let short = command.get_str("SHORT")?;
     let budget = number_given(command, "budget");
-    Some(Request::Complete { short, budget })
+    let progress = command.get_flag("progress");
+    Some(Request::Complete {
+        short,
+        budget,
+        progress,
+    })
 }
 
 fn show_request<'a>(command: &ArgMatches<'a>) -> Option<Request<'a>>

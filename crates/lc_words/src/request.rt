@@ -111,10 +111,11 @@ pub enum Request<'a> {
         check: bool,
         budget: Option<u64>,
     },
-    /// Make the short development in a file whole, in at most `budget` steps for a condition, if a number is given.
+    /// Make the short development in a file whole, in at most `budget` steps for a condition, if a number is given; and say how far it is.
     Complete {
         short: &'a str,
         budget: Option<u64>,
+        progress: bool,
     },
     /// Print a development of this name to begin with.
     New(&'a str),

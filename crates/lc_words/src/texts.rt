@@ -273,6 +273,9 @@ pub(crate) const PROVE: &str = "Finds a certificate of a development";
 
 pub(crate) const HINTS: &str = "Hints: terms, formulas and proofs for conditions, by their numbers";
 
+pub(crate) const COMPLETE_PROGRESS: &str =
+    "Say on standard error how many guesses are tried in each round, and then which condition is looked at";
+
 pub(crate) const PROGRESS: &str =
     "Say on standard error, by `condition K`, which condition is looked at";
 

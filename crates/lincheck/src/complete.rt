@@ -24,11 +24,16 @@ use std::io::Write;
 const TRIED: u64 = 20_000;
 
 /// The short development in the file that a reader was fed, made whole; else its first refusal.
-fn made_fed(alloc: Global, reader: FormsReader, budget: u64) -> Result<Made, Fault>
+fn made_fed<E: Write>(
+    alloc: Global,
+    reader: FormsReader,
+    budget: u64,
+    telling: &mut Telling<'_, E>,
+) -> Result<Made, Fault>
     ensures { (bytes : List ℕ) → WasFed reader bytes → IsAnswer bytes result }
 {
     let forms = reader.finish()?;
-    complete(alloc, &forms, budget.min(TRIED))
+    complete(alloc, &forms, budget.min(TRIED), telling)
 }
 
 /// The number of the condition that a fault of the finder names.
@@ -106,7 +111,7 @@ pub fn answer_complete<'a, F: Files, E: Write>(
 {
     let budget = budget.unwrap_or(BUDGET);
     let reader = feed_forms(alloc, files, path)?;
-    match made_fed(alloc, reader, budget) {
+    match made_fed(alloc, reader, budget, telling) {
         Ok(made) => {
             let answer = told_made(alloc, made, budget, telling)?;
             Ok(answer)

@@ -41,6 +41,7 @@ fn tells_progress(request: Request<'_>) -> bool {
         Request::Check { progress: true, .. }
             | Request::Prove { progress: true, .. }
             | Request::Carry { progress: true, .. }
+            | Request::Complete { progress: true, .. }
     )
 }
 
@@ -154,7 +155,7 @@ fn carry_out<'a, R: Threads + Wait + Sync, F: Files, O: Write, E: Write>(
             let answer = answer_order(alloc, files, development, history, search)?;
             print_told(out, why, &answer)
         }
-        Request::Complete { short, budget } => {
+        Request::Complete { short, budget, .. } => {
             let answer = answer_complete(alloc, files, short, budget, &mut telling)?;
             print_told(out, why, &answer)
         }

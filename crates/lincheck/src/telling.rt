@@ -4,6 +4,7 @@ ghost use Rattle.lc_cond.specs.ConditionView.{IsCondition};
 use lc_base::{Fault, OutOfMemory, Refusal};
 use lc_cert::Certificate;
 use lc_check::{Accepted, Finished, Prover, prove_one};
+use lc_complete::Rounds;
 use lc_cond::{Condition, Numbering};
 use lc_explain_cert::{Ending, Flaw};
 use lc_find::{Cause, CounterModel, FindFault, Progress};
@@ -168,6 +169,14 @@ impl<E: Write> Progress for Telling<'_, E> {
 
     fn given_up(&mut self, cause: Cause) {
         self.heard.cause = Some(cause);
+    }
+}
+
+impl<E: Write> Rounds for Telling<'_, E> {
+    fn begins(&mut self, facts: usize) {
+        if self.is_asked {
+            let _ = writeln!(self.err, "guesses {facts}");
+        }
     }
 }
 
