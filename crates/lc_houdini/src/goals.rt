@@ -23,7 +23,7 @@ pub(crate) fn conjuncts(
 }
 
 /// Hypotheses with these in place of the one at a place.
-fn replaced(
+pub(crate) fn replaced(
     alloc: Global,
     terms: &Terms,
     hypotheses: &[FormulaId],

@@ -6,6 +6,7 @@ mod earlier;
 mod facts;
 mod goals;
 mod guards;
+mod implied;
 mod marks;
 mod needs;
 mod rounds;

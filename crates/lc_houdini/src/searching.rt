@@ -18,7 +18,7 @@ use std::alloc::Global;
 
 /// What is asserted at a point, by its numbers in a table.
 #[derive(Drop)]
-struct Asserted {
+pub(crate) struct Asserted {
     point: PointId,
     formulas: Vec<FormulaId>,
 }
@@ -70,7 +70,7 @@ fn enter_at(
 }
 
 /// Enters what is asserted at the points of conditions.
-fn entered_for(
+pub(crate) fn entered_for(
     alloc: Global,
     terms: &mut Terms,
     development: &Development,
@@ -89,7 +89,7 @@ fn entered_for(
 }
 
 /// What is asserted at a point, if it was entered.
-fn asserted_at(entered: &[Asserted], point: PointId) -> Option<&[FormulaId]> {
+pub(crate) fn asserted_at(entered: &[Asserted], point: PointId) -> Option<&[FormulaId]> {
     for asserted in entered {
         if asserted.point == point {
             return Some(&asserted.formulas);

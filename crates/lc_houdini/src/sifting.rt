@@ -2,6 +2,7 @@
 use crate::earlier::Earlier;
 use crate::facts::Facts;
 use crate::guards::marked_actions;
+use crate::implied::unimplied_of;
 use crate::marks::{are_all, is_set, marks, set};
 use crate::needs::Need;
 use crate::rounds::Rounds;
@@ -158,29 +159,68 @@ fn exchange(plan: &mut Plan, parts: Parts) -> Parts {
     }
 }
 
-/// A plan without the facts that nothing needs, unless fewer proofs are found without them.
+/// A plan, with what is needed of its facts.
+#[derive(Drop)]
+struct Sieve {
+    plan: Plan,
+    round: Round,
+}
+
+/// Leaves out the facts that are not marked, unless fewer proofs are found without them.
+fn thinned<R: Rounds>(
+    alloc: Global,
+    forms: &Forms,
+    sieve: Sieve,
+    marks: &[bool],
+    budget: u64,
+    rounds: &mut R,
+) -> Result<Sieve, OutOfMemory> {
+    if are_all(marks) {
+        return Ok(sieve);
+    }
+    let Sieve { mut plan, round } = sieve;
+    let earlier = round.without(alloc, marks)?;
+    let fewer = marked_parts(alloc, &plan, marks)?;
+    let all = exchange(&mut plan, fewer);
+    match Round::of(alloc, forms, &plan, budget, earlier, rounds)? {
+        Some(again) if again.unfound() <= round.unfound() => Ok(Sieve { plan, round: again }),
+        _ => {
+            let _fewer = exchange(&mut plan, all);
+            Ok(Sieve { plan, round })
+        }
+    }
+}
+
+/// Marks the facts of a plan that do not follow from others.
+fn unimplied(alloc: Global, forms: &Forms, sieve: &Sieve) -> Result<Vec<bool>, OutOfMemory> {
+    match completed(alloc, &sieve.plan, forms) {
+        Ok(completion) => {
+            let facts = Facts::of(alloc, forms, &sieve.plan, &completion.development)?;
+            unimplied_of(alloc, &completion.development, &facts)
+        }
+        Err(Fault::Refused(_)) => marks(alloc, sieve.round.count, true),
+        Err(Fault::OutOfMemory) => Err(OutOfMemory),
+    }
+}
+
+/// A plan without the facts that nothing needs, and those that follow from others at their point.
 fn least<R: Rounds>(
     alloc: Global,
     forms: &Forms,
     plan: Plan,
-    round: &Round,
+    round: Round,
     budget: u64,
     rounds: &mut R,
 ) -> Result<Sifted, OutOfMemory> {
-    let mut plan = plan;
-    let mut unfound = round.unfound();
-    let needed = round.needed(alloc)?;
-    if !are_all(&needed) {
-        let earlier = round.without(alloc, &needed)?;
-        let fewer = marked_parts(alloc, &plan, &needed)?;
-        let all = exchange(&mut plan, fewer);
-        match Round::of(alloc, forms, &plan, budget, earlier, rounds)? {
-            Some(again) if again.unfound() <= unfound => unfound = again.unfound(),
-            _ => {
-                let _fewer = exchange(&mut plan, all);
-            }
-        }
-    }
+    let sieve = Sieve { plan, round };
+    let needed = sieve.round.needed(alloc)?;
+    let sieve = thinned(alloc, forms, sieve, &needed, budget, rounds)?;
+    let unimplied = unimplied(alloc, forms, &sieve)?;
+    let sieve = thinned(alloc, forms, sieve, &unimplied, budget, rounds)?;
+    let needed = sieve.round.needed(alloc)?;
+    let sieve = thinned(alloc, forms, sieve, &needed, budget, rounds)?;
+    let unfound = sieve.round.unfound();
+    let Sieve { plan, .. } = sieve;
     Ok(Sifted {
         plan,
         unfound: Some(unfound),
@@ -188,7 +228,7 @@ fn least<R: Rounds>(
 }
 
 /// A plan for a short development with these forms, without the guessed facts of which a proof is not found in at most `budget` steps, and without
-/// those that nothing needs: what is asserted at points, and what guards of actions ask for. What is planned else stays, and so does all if the budget is
+/// those that nothing needs, or that follow from others: what is asserted at points, and what guards of actions ask for. What is planned else stays, and so does all if the budget is
 /// 0, or no development is completed by the plan. Each round is reported to `rounds`.
 pub fn sifted<R: Rounds>(
     alloc: Global,
@@ -207,7 +247,7 @@ pub fn sifted<R: Rounds>(
         };
         let holding = round.holding(alloc)?;
         if are_all(&holding) {
-            return least(alloc, forms, plan, &round, budget, rounds);
+            return least(alloc, forms, plan, round, budget, rounds);
         }
         earlier = round.without(alloc, &holding)?;
         let fewer = marked_parts(alloc, &plan, &holding)?;
