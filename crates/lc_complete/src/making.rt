@@ -13,7 +13,7 @@ use crate::noting::noted;
 use lc_base::{Fault, OutOfMemory};
 use lc_fill::Plan;
 use lc_guess::{Reach, guess};
-use lc_houdini::{Rounds, Sifted, sifted};
+use lc_houdini::{Rounds, Sieved, sifted};
 use lc_layout::lay_out;
 use lc_outline::Development;
 use lc_sexp::Forms;
@@ -81,7 +81,7 @@ fn planned_by<R: Rounds>(
     reach: Reach,
     budget: u64,
     rounds: &mut R,
-) -> Result<Sifted, OutOfMemory> {
+) -> Result<Sieved, OutOfMemory> {
     let guessed = guess(alloc, forms, lacking, reach)?;
     sifted(alloc, forms, guessed, budget, rounds)
 }
@@ -94,7 +94,7 @@ fn planned<R: Rounds>(
     budget: u64,
     rounds: &mut R,
 ) -> Result<Plan, OutOfMemory> {
-    let Sifted { plan, unfound } = planned_by(alloc, forms, lacking, Reach::Told, budget, rounds)?;
+    let Sieved { plan, unfound } = planned_by(alloc, forms, lacking, Reach::Told, budget, rounds)?;
     let Some(count) = unfound else {
         return Ok(plan);
     };

@@ -16,4 +16,4 @@ mod used;
 
 pub use guards::written_actions;
 pub use rounds::{Rounds, Silent};
-pub use sifting::{Sifted, sifted};
+pub use sifting::{Sieved, sifted};

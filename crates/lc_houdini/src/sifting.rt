@@ -117,7 +117,7 @@ impl Round {
 
 /// A plan, with how many conditions have no proof that was found; none if none was sought.
 #[derive(Drop)]
-pub struct Sifted {
+pub struct Sieved {
     pub plan: Plan,
     pub unfound: Option<usize>,
 }
@@ -211,7 +211,7 @@ fn least<R: Rounds>(
     round: Round,
     budget: u64,
     rounds: &mut R,
-) -> Result<Sifted, OutOfMemory> {
+) -> Result<Sieved, OutOfMemory> {
     let sieve = Sieve { plan, round };
     let needed = sieve.round.needed(alloc)?;
     let sieve = thinned(alloc, forms, sieve, &needed, budget, rounds)?;
@@ -221,7 +221,7 @@ fn least<R: Rounds>(
     let sieve = thinned(alloc, forms, sieve, &needed, budget, rounds)?;
     let unfound = sieve.round.unfound();
     let Sieve { plan, .. } = sieve;
-    Ok(Sifted {
+    Ok(Sieved {
         plan,
         unfound: Some(unfound),
     })
@@ -236,7 +236,7 @@ pub fn sifted<R: Rounds>(
     plan: Plan,
     budget: u64,
     rounds: &mut R,
-) -> Result<Sifted, OutOfMemory> {
+) -> Result<Sieved, OutOfMemory> {
     let mut plan = plan;
     let mut earlier = Earlier::none(alloc);
     let most = if budget == 0 { 0 } else { ROUNDS };
@@ -253,7 +253,7 @@ pub fn sifted<R: Rounds>(
         let fewer = marked_parts(alloc, &plan, &holding)?;
         let _all = exchange(&mut plan, fewer);
     }
-    Ok(Sifted {
+    Ok(Sieved {
         plan,
         unfound: None,
     })

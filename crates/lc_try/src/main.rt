@@ -5,7 +5,7 @@ use anyhow::Context;
 use lc_base::Fault;
 use lc_fill::{Plan, fill};
 use lc_guess::{Reach, guess};
-use lc_houdini::{Sifted, Silent, sifted};
+use lc_houdini::{Sieved, Silent, sifted};
 use lc_sexp::Forms;
 use std::alloc::Global;
 use std::{env, fs};
@@ -17,7 +17,7 @@ fn answer(alloc: Global, bytes: &[u8], word: &str) -> Result<(Vec<u8>, usize), F
     let reach = if word == "told" || word == "told0" { Reach::Told } else { Reach::Tried };
     let plan = guess(alloc, &forms, bare.lacking(), reach)?;
     let budget = if word == "told0" || word == "tried0" { 0u64 } else { 20000u64 };
-    let Sifted { plan, unfound } = sifted(alloc, &forms, plan, budget, &mut Silent)?;
+    let Sieved { plan, unfound } = sifted(alloc, &forms, plan, budget, &mut Silent)?;
     let text = fill(alloc, &plan, &forms)?.text(alloc)?;
     Ok((text, unfound.unwrap_or(99999)))
 }
