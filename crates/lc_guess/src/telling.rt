@@ -24,7 +24,7 @@ use std::alloc::Global;
 const MOST_FACTS: usize = 64;
 
 /// Where facts are tried.
-const MOST_TRIED: usize = 128;
+const MOST_TRIED: usize = 256;
 
 /// The facts of a body, and the numbers of those that are known at each point, if a way leads there.
 #[derive(Drop)]
@@ -117,7 +117,8 @@ fn push_read(alloc: Global, told: &mut Vec<String>, seen: Seen<'_, '_>) -> Resul
     }
     for claim in &seen.body.object.claims {
         let said = with_row(alloc, claim, seen.columns(), &index, seen.point.targets())?;
-        if said.as_str() != claim.as_str() && is_of_locals(&said) {
+        let is_looked_at = seen.body.is_tried() || is_of_locals(&said);
+        if said.as_str() != claim.as_str() && is_looked_at {
             told.push(said)?;
         }
     }

@@ -365,6 +365,48 @@ fn push_added(alloc: Global, told: &mut Vec<Fact>, seen: Seen<'_, '_>) -> Result
     Ok(())
 }
 
+/// Appends what the invariant claims of the cells in which an instruction stores a local that is set at an edge, said of that local.
+fn push_intended_at(
+    alloc: Global,
+    told: &mut Vec<Fact>,
+    seen: Seen<'_, '_>,
+    point: &Point<'_>,
+) -> Result<(), OutOfMemory> {
+    let behind = later(point.code);
+    let values = match point.word {
+        "store" => within_first(later(behind)),
+        "cas" => within_first(later(later(behind))),
+        _ => return Ok(()),
+    };
+    let index = point.index(alloc)?;
+    for (column, value) in each_cell(seen.body.object.columns_of(first_text(point.code)), values) {
+        let local = text_of(value);
+        if !seen.point.sets.contains(&local) {
+            continue;
+        }
+        let cell = cell_at(alloc, column, &index)?;
+        for claim in &seen.body.object.claims {
+            let said = claim.replace(alloc, cell.as_str(), local)?;
+            if said.as_str() != claim.as_str() && !has_word(&said, &["forall", "exists"]) {
+                told.push(Fact::plain(alloc, said))?;
+            }
+        }
+    }
+    Ok(())
+}
+
+/// Appends what the invariant claims of cells in which a local is stored later that is set at an edge, said of that local.
+fn push_intended(
+    alloc: Global,
+    told: &mut Vec<Fact>,
+    seen: Seen<'_, '_>,
+) -> Result<(), OutOfMemory> {
+    for point in seen.ways.points {
+        push_intended_at(alloc, told, seen, point)?;
+    }
+    Ok(())
+}
+
 /// Appends what the invariant claims where something holds that a `cas` may have made.
 fn push_implied(
     alloc: Global,
@@ -399,6 +441,7 @@ pub(crate) fn push_tried(
         "cas" if seen.edge.word == "then" => push_implied(alloc, told, seen)?,
         _ => {}
     }
+    push_intended(alloc, told, seen)?;
     push_marked_when(alloc, told, seen)?;
     push_stored(alloc, told, seen)
 }
