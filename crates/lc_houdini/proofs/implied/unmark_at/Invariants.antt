@@ -3,4 +3,4 @@ use Rattle.lc_houdini.proofs.implied.unmark_at.Given as goal
 
 -- what is known are formulas
 abbrev pub invariant-loop-conjunct : goal.invariant-loop-conjunct
-invariant-loop-conjunct l = AreFormulas l.fn.terms.now l.known.items
+invariant-loop-conjunct l = AreFormulas l.fn.terms l.known.items
