@@ -1,0 +1,59 @@
+//! The first condition that fails where a client takes a step.
+ghost use Rattle.std.specs.Prelude.{◌≡◌, IfOk, map};
+ghost use Rattle.lc_cond.specs.ConditionView.{condition_in, AreConditions};
+ghost use Rattle.lc_blame.specs.Attempts.{IsAttempt, IsOnly, development_of, world_of, event_of};
+ghost use Rattle.lc_blame.specs.Blame.{FailsThere, IsActing, IsBlamed, IsFirst};
+
+use crate::acting::{Acting, acting};
+use crate::attempt::Attempt;
+use crate::failing::fails_there;
+use lc_base::OutOfMemory;
+use lc_cond::{Condition, ConditionStream};
+use lc_table::Terms;
+use std::alloc::Global;
+
+// The first of these conditions that fails there.
+fn first_failing(
+    alloc: Global,
+    attempt: &Attempt<'_>,
+    acting: &Option<Acting>,
+    terms: &Terms,
+    conditions: &[Condition],
+) -> Result<Option<usize>, OutOfMemory>
+    requires attempt { IsAttempt attempt.now }
+    requires acting { IsOnly (IsActing (development_of attempt.now) (world_of attempt.now) attempt.now.client (event_of attempt.now) (event_of attempt.now)) acting.now }
+    requires conditions { AreConditions terms.now conditions.now }
+    ensures { IfOk result (IsFirst (FailsThere (development_of attempt.now) (world_of attempt.now) attempt.now.client (event_of attempt.now) attempt.now.tried.now) (map (condition_in terms.now) conditions.now)) }
+{
+    for (i, condition) in conditions.iter().enumerate() {
+        let failed = fails_there(alloc, attempt, acting, terms, condition)?;
+        if failed {
+            return Ok(Some(i));
+        }
+    }
+    Ok(None)
+}
+
+/// The number of the first condition of a development that fails where a client takes a step, with numbers that clients have there for its
+/// variables: its goal is seen not to hold in the columns before the step, and none of its hypotheses is.
+pub fn failing_condition(
+    alloc: Global,
+    attempt: &Attempt<'_>,
+) -> Result<Option<u64>, OutOfMemory>
+    requires { IsAttempt attempt.now }
+    ensures { IfOk result (IsBlamed (development_of attempt.now) (world_of attempt.now) attempt.now.client (event_of attempt.now) attempt.now.tried.now) }
+{
+    let acting = acting(alloc, attempt)?;
+    let mut stream = ConditionStream::new(alloc, attempt.development)?;
+    'parts: loop {
+        let mut terms = Terms::new(alloc);
+        let first = stream.first_number();
+        let Some(conditions) = stream.next_part(attempt.development, &mut terms)? else {
+            return Ok(None);
+        };
+        match first_failing(alloc, attempt, &acting, &terms, &conditions)? {
+            Some(place) => return Ok(Some(first + place as u64)),
+            None => {}
+        }
+    }
+}
