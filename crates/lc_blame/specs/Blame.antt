@@ -81,16 +81,16 @@ module _ (D : Development) (w : World) (c : ℕ) (what : Option Event) where
 
   -- clients have these numbers for the variables of a condition there: at the start any client; where a call begins or an edge is passed client
   -- c; where another client acts that one, beside client c
-  abbrev pub HaveNumbers : Option ℕ → Passage → List ℤ → Type 0
-  HaveNumbers None NoPassage vs = (u : ℕ) × (u < length w.clients) × (vs ≡ own (length w.clients) u)
-  HaveNumbers (Some p) NoPassage vs = (ns : List ℤ) × Begins p ns × (vs ≡ own (length w.clients) c ++ ns)
-  HaveNumbers None (ByEdge e) vs = ⊥
-  HaveNumbers (Some p) (ByEdge e) vs = IsClient w c (In p vs)
-  HaveNumbers point (ByAction i) vs = (args : List ℤ) × IsActing what i args × HasBeside point args vs
+  abbrev pub HaveNumbers : Passage → Option ℕ → List ℤ → Type 0
+  HaveNumbers NoPassage None vs = (u : ℕ) × (u < length w.clients) × (vs ≡ own (length w.clients) u)
+  HaveNumbers NoPassage (Some p) vs = (ns : List ℤ) × Begins p ns × (vs ≡ own (length w.clients) c ++ ns)
+  HaveNumbers (ByEdge e) None vs = ⊥
+  HaveNumbers (ByEdge e) (Some p) vs = IsClient w c (In p vs)
+  HaveNumbers (ByAction i) point vs = (args : List ℤ) × IsActing what i args × HasBeside point args vs
 
   -- a condition fails there, with numbers that clients have
   abbrev pub FailsThere : List ℤ → Condition → Type 0
-  FailsThere tried k = FailsAmong tried w.columns (HaveNumbers (k.place.point) (k.place.passage)) k
+  FailsThere tried k = FailsAmong tried w.columns (HaveNumbers (k.place.passage) (k.place.point)) k
 
   -- the first condition that does, by its number; or none does
   abbrev pub IsBlamed : List ℤ → Option ℕ → Type 0

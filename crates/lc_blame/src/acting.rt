@@ -30,6 +30,24 @@ pub(crate) struct Acting {
 }
 
 // The action that is said at an edge.
+fn acting_said(
+    alloc: Global,
+    on: &On,
+    state: &State,
+    env: &Env,
+) -> Result<Option<Acting>, OutOfMemory>
+    ensures { IfOk result (IsOnly (IsActionOn (column_count state.now) (state_of state.now) env.now.values.items (Some (on_of on.now)))) }
+{
+    match numbers_of(alloc, &on.arguments, state, env)? {
+        None => Ok(None),
+        Some(numbers) => Ok(Some(Acting {
+            action: on.action.0 as usize,
+            numbers,
+        })),
+    }
+}
+
+// The same, if anything is said.
 fn acting_on(
     alloc: Global,
     on: Option<&On>,
@@ -38,15 +56,28 @@ fn acting_on(
 ) -> Result<Option<Acting>, OutOfMemory>
     ensures { IfOk result (IsOnly (IsActionOn (column_count state.now) (state_of state.now) env.now.values.items (option_map (λ o. on_of o.now) on.entry))) }
 {
-    let Some(on) = on else {
-        return Ok(None);
-    };
-    match numbers_of(alloc, &on.arguments, state, env)? {
+    match on {
         None => Ok(None),
-        Some(numbers) => Ok(Some(Acting {
-            action: on.action.0 as usize,
-            numbers,
+        Some(on) => acting_said(alloc, on, state, env),
+    }
+}
+
+// The same at a return, which is `leave` if nothing is said.
+fn acting_at_return(
+    alloc: Global,
+    attempt: &Attempt<'_>,
+    on: Option<&On>,
+    env: &Env,
+) -> Result<Option<Acting>, OutOfMemory>
+    requires { IsAttempt attempt.now }
+    ensures { IfOk result (IsOnly (IsAtReturn (development_of attempt.now) (world_of attempt.now) attempt.now.client (event_of attempt.now) env.now.values.items (option_map (λ o. on_of o.now) on.entry))) }
+{
+    match on {
+        None => Ok(Some(Acting {
+            action: attempt.development.parts().actions.len() + 1,
+            numbers: Vec::new(alloc),
         })),
+        Some(on) => acting_said(alloc, on, attempt.state, env),
     }
 }
 
@@ -94,7 +125,7 @@ fn passing(
     match place_of(attempt.clients, attempt.client) {
         None => Ok(None),
         Some(place) => {
-            if place.point != point {
+            if place.point.0 != point.0 {
                 return Ok(None);
             }
             let on = on_at(attempt.development, point, edge);
@@ -112,13 +143,8 @@ fn leaving(
     requires { IsAttempt attempt.now }
     ensures { IfOk result (IsOnly (IsAtReturn (development_of attempt.now) (world_of attempt.now) attempt.now.client (event_of attempt.now) (variables_of place.now) (on_at (development_of attempt.now) place.now.point.0 Next))) }
 {
-    match on_at(attempt.development, place.point, EdgeKind::Next) {
-        None => Ok(Some(Acting {
-            action: attempt.development.parts().actions.len() + 1,
-            numbers: Vec::new(alloc),
-        })),
-        Some(on) => acting_on(alloc, Some(on), attempt.state, &place.variables),
-    }
+    let on = on_at(attempt.development, place.point, EdgeKind::Next);
+    acting_at_return(alloc, attempt, on, &place.variables)
 }
 
 /// The action that a step is.

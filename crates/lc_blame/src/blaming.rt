@@ -48,12 +48,14 @@ pub fn failing_condition(
     'parts: loop {
         let mut terms = Terms::new(alloc);
         let first = stream.first_number();
-        let Some(conditions) = stream.next_part(attempt.development, &mut terms)? else {
-            return Ok(None);
-        };
-        match first_failing(alloc, attempt, &acting, &terms, &conditions)? {
-            Some(place) => return Ok(Some(first + place as u64)),
-            None => {}
+        match stream.next_part(attempt.development, &mut terms)? {
+            None => return Ok(None),
+            Some(conditions) => {
+                match first_failing(alloc, attempt, &acting, &terms, &conditions)? {
+                    Some(place) => return Ok(Some(first + place as u64)),
+                    None => {}
+                }
+            }
         }
     }
 }

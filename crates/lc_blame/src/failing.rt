@@ -1,5 +1,5 @@
 //! Whether a condition fails in a world, with numbers that clients have there.
-ghost use Rattle.std.specs.Prelude.{◌≡◌, ◌<◌, ◌↔◌, ◌++◌, ◌∷◌, ℕ, pos, Some, IsTrue, IfOk, length, option_map};
+ghost use Rattle.std.specs.Prelude.{◌≡◌, ◌++◌, ◌∷◌, pos, Some, None, IfOk, option_map};
 ghost use Rattle.lc_term.specs.Lists.{Every};
 ghost use Rattle.lc_term.specs.State.{state_of};
 ghost use Rattle.lc_table.specs.Tables.{IsFormula, AreFormulas, formula_in, formulas_in};
@@ -8,16 +8,15 @@ ghost use Rattle.lc_machine.specs.View.{client_of};
 ghost use Rattle.lc_machine.specs.World.{In};
 ghost use Rattle.lc_cond.specs.Conditions.{NoPassage, ByAction};
 ghost use Rattle.lc_cond.specs.ConditionView.{condition_in, IsCondition};
-ghost use Rattle.lc_sound.specs.Claims.{own};
 ghost use Rattle.lc_stages.specs.Stages.{numbers_at};
 ghost use Rattle.lc_watch.specs.Watched.{Fails};
-ghost use Rattle.lc_blame.specs.Attempts.{IsAttempt, IsOnly, development_of, world_of, event_of};
+ghost use Rattle.lc_blame.specs.Attempts.{IsAttempt, IsOnly, SaysSo, FailsAtEntry, development_of, world_of, event_of};
 ghost use Rattle.lc_blame.specs.Blame.{FailsWith, FailsAmong, FailsThere, HasBeside, HaveNumbers, IsActing, point_of};
 
 use crate::acting::Acting;
 use crate::attempt::Attempt;
 use crate::placing::{is_at, joined_numbers, own_numbers, place_of};
-use lc_base::{OutOfMemory, PointId};
+use lc_base::{OpId, OutOfMemory, PointId};
 use lc_cond::{Condition, Passage};
 use lc_copy::formula_tree;
 use lc_look::{Seen, look};
@@ -44,7 +43,7 @@ fn fails(
     tried: &[i64],
 ) -> Result<bool, OutOfMemory>
     requires { IsFormula terms.now formula }
-    ensures { IfOk result (λ answer. IsTrue answer ↔ Fails tried.now (state_of state.now) env.now.values.items (formula_in terms.now formula)) }
+    ensures { IfOk result (λ answer. SaysSo answer (Fails tried.now (state_of state.now) env.now.values.items (formula_in terms.now formula))) }
 {
     let tree = formula_tree(terms, alloc, formula)?;
     match look(alloc, &tree, state, env, tried)? {
@@ -63,7 +62,7 @@ fn none_fails(
     tried: &[i64],
 ) -> Result<bool, OutOfMemory>
     requires { AreFormulas terms.now formulas.now }
-    ensures { IfOk result (λ answer. IsTrue answer ↔ Every (λ h. Fails tried.now (state_of state.now) env.now.values.items h → ⊥) (formulas_in terms.now formulas.now)) }
+    ensures { IfOk result (λ answer. SaysSo answer (Every (λ h. Fails tried.now (state_of state.now) env.now.values.items h → ⊥) (formulas_in terms.now formulas.now))) }
 {
     for formula in formulas {
         let failed = fails(alloc, terms, *formula, state, env, tried)?;
@@ -82,17 +81,18 @@ fn fails_with(
     env: &Env,
 ) -> Result<bool, OutOfMemory>
     requires { IsCondition asked.terms.now asked.condition.now }
-    ensures { IfOk result (λ answer. IsTrue answer ↔ FailsWith attempt.now.tried.now (state_of attempt.now.state.now) env.now.values.items (condition_in asked.terms.now asked.condition.now)) }
+    ensures { IfOk result (λ answer. SaysSo answer (FailsWith attempt.now.tried.now (state_of attempt.now.state.now) env.now.values.items (condition_in asked.terms.now asked.condition.now))) }
 {
     let goal = &asked.condition.goal;
     let failed = fails(alloc, asked.terms, goal.goal, attempt.state, env, attempt.tried)?;
     if !failed {
         return Ok(false);
     }
+    let hypotheses = goal.hypotheses.as_slice();
     none_fails(
         alloc,
         asked.terms,
-        goal.hypotheses.as_slice(),
+        hypotheses,
         attempt.state,
         env,
         attempt.tried,
@@ -107,8 +107,10 @@ fn fails_at_start(
 ) -> Result<bool, OutOfMemory>
     requires attempt { IsAttempt attempt.now }
     requires asked { IsCondition asked.terms.now asked.condition.now }
-    ensures { IfOk result (λ answer. IsTrue answer ↔ FailsAmong attempt.now.tried.now (state_of attempt.now.state.now)
-        (λ vs. (u : ℕ) × (u < length attempt.now.clients.now) × (vs ≡ own (length attempt.now.clients.now) u)) (condition_in asked.terms.now asked.condition.now)) }
+    ensures { let D = development_of attempt.now in
+        let w = world_of attempt.now in
+        IfOk result (λ answer. SaysSo answer (FailsAmong attempt.now.tried.now w.columns (HaveNumbers D w attempt.now.client (event_of attempt.now) NoPassage None)
+        (condition_in asked.terms.now asked.condition.now))) }
 {
     let count = attempt.clients.len() as u32;
     for client in 0..count {
@@ -121,7 +123,35 @@ fn fails_at_start(
     Ok(false)
 }
 
-// Whether a condition about a call that begins at this point fails, if the step begins one there.
+// Whether a condition about a call that begins at this point fails, if this operation begins there.
+fn fails_at_entry(
+    alloc: Global,
+    attempt: &Attempt<'_>,
+    asked: Asked<'_>,
+    point: PointId,
+    operation: OpId,
+    numbers: &[i64],
+) -> Result<bool, OutOfMemory>
+    requires attempt { IsAttempt attempt.now }
+    requires asked { IsCondition asked.terms.now asked.condition.now }
+    ensures { let D = development_of attempt.now in
+        let w = world_of attempt.now in
+        IfOk result (λ answer. SaysSo answer (FailsAtEntry D w attempt.now.client attempt.now.tried.now point.0 operation.0 numbers.now (condition_in asked.terms.now asked.condition.now))) }
+{
+    match body_of(attempt.development, operation) {
+        None => Ok(false),
+        Some(body) => {
+            if body.entry.0 != point.0 {
+                return Ok(false);
+            }
+            let count = attempt.clients.len() as u32;
+            let env = own_numbers(alloc, count, attempt.client, numbers)?;
+            fails_with(alloc, attempt, asked, &env)
+        }
+    }
+}
+
+// The same, if the step begins a call.
 fn fails_at_call(
     alloc: Global,
     attempt: &Attempt<'_>,
@@ -132,21 +162,15 @@ fn fails_at_call(
     requires asked { IsCondition asked.terms.now asked.condition.now }
     ensures { let D = development_of attempt.now in
         let w = world_of attempt.now in
-        IfOk result (λ answer. IsTrue answer ↔ FailsAmong attempt.now.tried.now w.columns (HaveNumbers D w attempt.now.client (event_of attempt.now) (Some point.0) NoPassage)
-        (condition_in asked.terms.now asked.condition.now)) }
+        IfOk result (λ answer. SaysSo answer (FailsAmong attempt.now.tried.now w.columns (HaveNumbers D w attempt.now.client (event_of attempt.now) NoPassage (Some point.0))
+        (condition_in asked.terms.now asked.condition.now))) }
 {
-    let Some(What::Invoked { operation, numbers }) = attempt.what else {
-        return Ok(false);
-    };
-    let Some(body) = body_of(attempt.development, *operation) else {
-        return Ok(false);
-    };
-    if body.entry != point {
-        return Ok(false);
+    match attempt.what {
+        Some(What::Invoked { operation, numbers }) => {
+            fails_at_entry(alloc, attempt, asked, point, *operation, numbers)
+        }
+        None | Some(What::Moved { .. } | What::Returned(_)) => Ok(false),
     }
-    let count = attempt.clients.len() as u32;
-    let env = own_numbers(alloc, count, attempt.client, numbers)?;
-    fails_with(alloc, attempt, asked, &env)
 }
 
 // Whether a condition about an edge of this point fails, if the client is there.
@@ -159,12 +183,12 @@ fn fails_on_edge(
     requires attempt { IsAttempt attempt.now }
     requires asked { IsCondition asked.terms.now asked.condition.now }
     ensures { let w = world_of attempt.now in
-        IfOk result (λ answer. IsTrue answer ↔ FailsAmong attempt.now.tried.now w.columns (λ vs. IsClient w attempt.now.client (In point.0 vs)) (condition_in asked.terms.now asked.condition.now)) }
+        IfOk result (λ answer. SaysSo answer (FailsAmong attempt.now.tried.now w.columns (λ vs. IsClient w attempt.now.client (In point.0 vs)) (condition_in asked.terms.now asked.condition.now))) }
 {
     match place_of(attempt.clients, attempt.client) {
         None => Ok(false),
         Some(place) => {
-            if place.point != point {
+            if place.point.0 != point.0 {
                 return Ok(false);
             }
             fails_with(alloc, attempt, asked, &place.variables)
@@ -187,8 +211,8 @@ fn fails_of(
     ensures { let D = development_of attempt.now in
         let w = world_of attempt.now in
         let k = client_of client.now in
-        IfOk result (λ answer. IsTrue answer ↔ (number ≡ attempt.now.client → ⊥) × (point_of k ≡ option_map (λ p. p.0) point)
-        × FailsWith attempt.now.tried.now w.columns (numbers_at D w number k ++ pos attempt.now.client ∷ given.now) (condition_in asked.terms.now asked.condition.now)) }
+        IfOk result (λ answer. SaysSo answer ((number ≡ attempt.now.client → ⊥) × (point_of k ≡ option_map (λ p. p.0) point)
+        × FailsWith attempt.now.tried.now w.columns (numbers_at D w number k ++ pos attempt.now.client ∷ given.now) (condition_in asked.terms.now asked.condition.now))) }
 {
     if number == attempt.client || !is_at(client, point) {
         return Ok(false);
@@ -210,8 +234,8 @@ fn fails_beside(
     requires asked { IsCondition asked.terms.now asked.condition.now }
     ensures { let D = development_of attempt.now in
         let w = world_of attempt.now in
-        IfOk result (λ answer. IsTrue answer ↔ FailsAmong attempt.now.tried.now w.columns (HasBeside D w attempt.now.client (event_of attempt.now) (option_map (λ p. p.0) point) given.now)
-        (condition_in asked.terms.now asked.condition.now)) }
+        IfOk result (λ answer. SaysSo answer (FailsAmong attempt.now.tried.now w.columns (HasBeside D w attempt.now.client (event_of attempt.now) (option_map (λ p. p.0) point) given.now)
+        (condition_in asked.terms.now asked.condition.now))) }
 {
     for (i, client) in attempt.clients.iter().enumerate() {
         let failed = fails_of(alloc, attempt, asked, point, given, i as u32, client)?;
@@ -236,8 +260,8 @@ fn fails_under(
     requires asked { IsCondition asked.terms.now asked.condition.now }
     ensures { let D = development_of attempt.now in
         let w = world_of attempt.now in
-        IfOk result (λ answer. IsTrue answer ↔ FailsAmong attempt.now.tried.now w.columns (HaveNumbers D w attempt.now.client (event_of attempt.now) (option_map (λ p. p.0) point) (ByAction action))
-        (condition_in asked.terms.now asked.condition.now)) }
+        IfOk result (λ answer. SaysSo answer (FailsAmong attempt.now.tried.now w.columns (HaveNumbers D w attempt.now.client (event_of attempt.now) (ByAction action) (option_map (λ p. p.0) point))
+        (condition_in asked.terms.now asked.condition.now))) }
 {
     match acting {
         None => Ok(false),
@@ -261,7 +285,7 @@ pub(crate) fn fails_there(
     requires attempt { IsAttempt attempt.now }
     requires acting { IsOnly (IsActing (development_of attempt.now) (world_of attempt.now) attempt.now.client (event_of attempt.now) (event_of attempt.now)) acting.now }
     requires asked { IsCondition terms.now condition.now }
-    ensures { IfOk result (λ answer. IsTrue answer ↔ FailsThere (development_of attempt.now) (world_of attempt.now) attempt.now.client (event_of attempt.now) attempt.now.tried.now (condition_in terms.now condition.now)) }
+    ensures { IfOk result (λ answer. SaysSo answer (FailsThere (development_of attempt.now) (world_of attempt.now) attempt.now.client (event_of attempt.now) attempt.now.tried.now (condition_in terms.now condition.now))) }
 {
     let asked = Asked { terms, condition };
     let place = condition.place;

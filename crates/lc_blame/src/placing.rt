@@ -1,10 +1,11 @@
 //! Where clients are, and the numbers of variables there.
-ghost use Rattle.std.specs.Prelude.{◌≡◌, ◌++◌, ◌∷◌, pos, List, ℤ, ℕ, length, option_map, IfOk, MatchOption, IsTrue, ◌↔◌, Some, slice_get};
+ghost use Rattle.std.specs.Prelude.{◌≡◌, ◌++◌, ◌∷◌, pos, List, ℤ, ℕ, length, option_map, IfOk, MatchOption, Some, slice_get};
 ghost use Rattle.lc_machine.specs.View.{client_of, clients_of, variables_of};
 ghost use Rattle.lc_machine.specs.World.{World, In};
 ghost use Rattle.lc_sound.specs.Claims.{own};
 ghost use Rattle.lc_outline.specs.Development.{Development};
 ghost use Rattle.lc_stages.specs.Stages.{numbers_at};
+ghost use Rattle.lc_blame.specs.Attempts.{SaysSo};
 ghost use Rattle.lc_blame.specs.Blame.{point_of};
 
 use lc_base::{OutOfMemory, PointId};
@@ -26,13 +27,16 @@ pub(crate) fn place_of(clients: &[Client], client: u32) -> Option<&Place>
 
 /// Whether a client is at this point, or in no call if there is none.
 pub(crate) fn is_at(client: &Client, point: Option<PointId>) -> bool
-    ensures { IsTrue result ↔ (point_of (client_of client.now) ≡ option_map (λ p. p.0) point) }
+    ensures { SaysSo result (point_of (client_of client.now) ≡ option_map (λ p. p.0) point) }
 {
     match client {
-        Client::Idle => point.is_none(),
+        Client::Idle => match point {
+            None => true,
+            Some(_) => false,
+        },
         Client::In(place) => match point {
             None => false,
-            Some(point) => place.point == point,
+            Some(point) => place.point.0 == point.0,
         },
     }
 }

@@ -1,0 +1,6 @@
+mod Evaluated
+mod Firsts
+mod Only
+mod Among
+mod Deciding
+mod Refuting
