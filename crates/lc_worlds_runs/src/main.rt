@@ -65,9 +65,7 @@ fn answer(
     if scripts.len() > SEAT_LIMIT as usize {
         return Ok(format!(in alloc; "too many clients")?);
     }
-    let Some(worlds) = worlds_of(alloc, development, scripts, &numbers)? else {
-        return Ok(format!(in alloc; "no system")?);
-    };
+    let worlds = worlds_of(alloc, development, scripts, &numbers)?;
     Ok(match explore(alloc, &worlds, BUDGET)? {
         Explored::All(worlds) => format!(in alloc; "explored {worlds}"),
         Explored::Fails(trace) => {
