@@ -36,10 +36,10 @@ pub(crate) fn numbers_of(
 {
     let mut numbers = Vec::with_capacity(alloc, terms.len())?;
     for term in terms {
-        let Some(number) = number_of(term, state, env) else {
-            return Ok(None);
-        };
-        numbers.push(number)?;
+        match number_of(term, state, env) {
+            None => return Ok(None),
+            Some(number) => numbers.push(number)?,
+        }
     }
     Ok(Some(numbers))
 }
