@@ -1,7 +1,7 @@
 -- The first of some things, found part by part.
 use Rattle.std.proofs.Common.{◌≡◌, ℕ, zero, suc, ◌<◌, ◌≤◌, ◌+◌, List, [], ◌∷◌, ◌++◌, map, take, length, get_or, refl, sym, ap, subst, ◌∙◌, arith}
 use Rattle.std.specs.Prelude.{Option, Some, None, option_map, slice_get}
-use Rattle.std.proofs.lemmas.List.{map_more, take_all}
+use Rattle.std.proofs.lemmas.List.{map_more, take_all, get_or_default}
 use Rattle.std.proofs.lemmas.Option.{same_Some, slice_get_within, slice_get-map}
 use Rattle.lc_cond.proofs.Sized.{every_at}
 use Rattle.lc_lemmas.proofs.Lists.{kept_left, get_in_front, get_taken}
@@ -65,3 +65,10 @@ module _ {A B : Type 0} (Is : B → Type 0) (f : A → B) (xs : List A) (i : ℕ
 
   pub none_all : length xs ≤ i → Every (λ y. Is y → ⊥) (map f (take i xs)) → Every (λ y. Is y → ⊥) (map f xs)
   none_all past all = subst (λ (l : List A). Every (λ y. Is y → ⊥) (map f l)) (take_all i xs past) all
+
+  pub not_none : (x : A) → i < length xs → x ≡ get_or xs i x → Is (f x) → Every (λ y. Is y → ⊥) (map f xs) → ⊥
+  not_none x lt is so none = every_at (λ y. Is y → ⊥) (map f xs) i (f x) none (viewed_at f xs i x lt is) so
+
+-- an element that is read is itself, whatever stands for one that is not there
+pub read_is : {A : Type 0} (xs : List A) (i : ℕ) (d : A) → i < length xs → get_or xs i d ≡ get_or xs i (get_or xs i d)
+read_is xs i d lt = get_or_default xs i d (get_or xs i d) lt

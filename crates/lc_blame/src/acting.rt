@@ -148,7 +148,7 @@ fn leaving(
 }
 
 /// The action that a step is.
-pub(crate) fn acting(
+pub(crate) fn action_of(
     alloc: Global,
     attempt: &Attempt<'_>,
 ) -> Result<Option<Acting>, OutOfMemory>

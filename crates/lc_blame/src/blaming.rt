@@ -4,7 +4,7 @@ ghost use Rattle.lc_cond.specs.ConditionView.{condition_in, AreConditions};
 ghost use Rattle.lc_blame.specs.Attempts.{IsAttempt, IsOnly, development_of, world_of, event_of};
 ghost use Rattle.lc_blame.specs.Blame.{FailsThere, IsActing, IsBlamed, IsFirst};
 
-use crate::acting::{Acting, acting};
+use crate::acting::{Acting, action_of};
 use crate::attempt::Attempt;
 use crate::failing::fails_there;
 use lc_base::OutOfMemory;
@@ -43,7 +43,7 @@ pub fn failing_condition(
     requires { IsAttempt attempt.now }
     ensures { IfOk result (IsBlamed (development_of attempt.now) (world_of attempt.now) attempt.now.client (event_of attempt.now) attempt.now.tried.now) }
 {
-    let acting = acting(alloc, attempt)?;
+    let acting = action_of(alloc, attempt)?;
     let mut stream = ConditionStream::new(alloc, attempt.development)?;
     'parts: loop {
         let mut terms = Terms::new(alloc);

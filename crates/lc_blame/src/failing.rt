@@ -28,7 +28,7 @@ use std::alloc::Global;
 
 // A condition in the table that has its formulas.
 #[derive(Clone, Copy)]
-pub(crate) struct Asked<'a> {
+struct Asked<'a> {
     pub terms: &'a Terms,
     pub condition: &'a Condition,
 }
@@ -77,11 +77,11 @@ fn none_fails(
 fn fails_with(
     alloc: Global,
     attempt: &Attempt<'_>,
-    asked: Asked<'_>,
+    asked: &Asked<'_>,
     env: &Env,
 ) -> Result<bool, OutOfMemory>
-    requires { IsCondition asked.terms.now asked.condition.now }
-    ensures { IfOk result (λ answer. SaysSo answer (FailsWith attempt.now.tried.now (state_of attempt.now.state.now) env.now.values.items (condition_in asked.terms.now asked.condition.now))) }
+    requires { IsCondition asked.now.terms.now asked.now.condition.now }
+    ensures { IfOk result (λ answer. SaysSo answer (FailsWith attempt.now.tried.now (state_of attempt.now.state.now) env.now.values.items (condition_in asked.now.terms.now asked.now.condition.now))) }
 {
     let goal = &asked.condition.goal;
     let failed = fails(alloc, asked.terms, goal.goal, attempt.state, env, attempt.tried)?;
@@ -103,14 +103,14 @@ fn fails_with(
 fn fails_at_start(
     alloc: Global,
     attempt: &Attempt<'_>,
-    asked: Asked<'_>,
+    asked: &Asked<'_>,
 ) -> Result<bool, OutOfMemory>
     requires attempt { IsAttempt attempt.now }
-    requires asked { IsCondition asked.terms.now asked.condition.now }
+    requires asked { IsCondition asked.now.terms.now asked.now.condition.now }
     ensures { let D = development_of attempt.now in
         let w = world_of attempt.now in
         IfOk result (λ answer. SaysSo answer (FailsAmong attempt.now.tried.now w.columns (HaveNumbers D w attempt.now.client (event_of attempt.now) NoPassage None)
-        (condition_in asked.terms.now asked.condition.now))) }
+        (condition_in asked.now.terms.now asked.now.condition.now))) }
 {
     let count = attempt.clients.len() as u32;
     for client in 0..count {
@@ -127,16 +127,16 @@ fn fails_at_start(
 fn fails_at_entry(
     alloc: Global,
     attempt: &Attempt<'_>,
-    asked: Asked<'_>,
+    asked: &Asked<'_>,
     point: PointId,
     operation: OpId,
     numbers: &[i64],
 ) -> Result<bool, OutOfMemory>
     requires attempt { IsAttempt attempt.now }
-    requires asked { IsCondition asked.terms.now asked.condition.now }
+    requires asked { IsCondition asked.now.terms.now asked.now.condition.now }
     ensures { let D = development_of attempt.now in
         let w = world_of attempt.now in
-        IfOk result (λ answer. SaysSo answer (FailsAtEntry D w attempt.now.client attempt.now.tried.now point.0 operation.0 numbers.now (condition_in asked.terms.now asked.condition.now))) }
+        IfOk result (λ answer. SaysSo answer (FailsAtEntry D w attempt.now.client attempt.now.tried.now point.0 operation.0 numbers.now (condition_in asked.now.terms.now asked.now.condition.now))) }
 {
     match body_of(attempt.development, operation) {
         None => Ok(false),
@@ -155,15 +155,15 @@ fn fails_at_entry(
 fn fails_at_call(
     alloc: Global,
     attempt: &Attempt<'_>,
-    asked: Asked<'_>,
+    asked: &Asked<'_>,
     point: PointId,
 ) -> Result<bool, OutOfMemory>
     requires attempt { IsAttempt attempt.now }
-    requires asked { IsCondition asked.terms.now asked.condition.now }
+    requires asked { IsCondition asked.now.terms.now asked.now.condition.now }
     ensures { let D = development_of attempt.now in
         let w = world_of attempt.now in
         IfOk result (λ answer. SaysSo answer (FailsAmong attempt.now.tried.now w.columns (HaveNumbers D w attempt.now.client (event_of attempt.now) NoPassage (Some point.0))
-        (condition_in asked.terms.now asked.condition.now))) }
+        (condition_in asked.now.terms.now asked.now.condition.now))) }
 {
     match attempt.what {
         Some(What::Invoked { operation, numbers }) => {
@@ -177,13 +177,13 @@ fn fails_at_call(
 fn fails_on_edge(
     alloc: Global,
     attempt: &Attempt<'_>,
-    asked: Asked<'_>,
+    asked: &Asked<'_>,
     point: PointId,
 ) -> Result<bool, OutOfMemory>
     requires attempt { IsAttempt attempt.now }
-    requires asked { IsCondition asked.terms.now asked.condition.now }
+    requires asked { IsCondition asked.now.terms.now asked.now.condition.now }
     ensures { let w = world_of attempt.now in
-        IfOk result (λ answer. SaysSo answer (FailsAmong attempt.now.tried.now w.columns (λ vs. IsClient w attempt.now.client (In point.0 vs)) (condition_in asked.terms.now asked.condition.now))) }
+        IfOk result (λ answer. SaysSo answer (FailsAmong attempt.now.tried.now w.columns (λ vs. IsClient w attempt.now.client (In point.0 vs)) (condition_in asked.now.terms.now asked.now.condition.now))) }
 {
     match place_of(attempt.clients, attempt.client) {
         None => Ok(false),
@@ -200,19 +200,19 @@ fn fails_on_edge(
 fn fails_of(
     alloc: Global,
     attempt: &Attempt<'_>,
-    asked: Asked<'_>,
+    asked: &Asked<'_>,
     point: Option<PointId>,
     given: &[i64],
     number: u32,
     client: &Client,
 ) -> Result<bool, OutOfMemory>
     requires attempt { IsAttempt attempt.now }
-    requires asked { IsCondition asked.terms.now asked.condition.now }
+    requires asked { IsCondition asked.now.terms.now asked.now.condition.now }
     ensures { let D = development_of attempt.now in
         let w = world_of attempt.now in
         let k = client_of client.now in
         IfOk result (λ answer. SaysSo answer ((number ≡ attempt.now.client → ⊥) × (point_of k ≡ option_map (λ p. p.0) point)
-        × FailsWith attempt.now.tried.now w.columns (numbers_at D w number k ++ pos attempt.now.client ∷ given.now) (condition_in asked.terms.now asked.condition.now))) }
+        × FailsWith attempt.now.tried.now w.columns (numbers_at D w number k ++ pos attempt.now.client ∷ given.now) (condition_in asked.now.terms.now asked.now.condition.now))) }
 {
     if number == attempt.client || !is_at(client, point) {
         return Ok(false);
@@ -226,16 +226,16 @@ fn fails_of(
 fn fails_beside(
     alloc: Global,
     attempt: &Attempt<'_>,
-    asked: Asked<'_>,
+    asked: &Asked<'_>,
     point: Option<PointId>,
     given: &[i64],
 ) -> Result<bool, OutOfMemory>
     requires attempt { IsAttempt attempt.now }
-    requires asked { IsCondition asked.terms.now asked.condition.now }
+    requires asked { IsCondition asked.now.terms.now asked.now.condition.now }
     ensures { let D = development_of attempt.now in
         let w = world_of attempt.now in
         IfOk result (λ answer. SaysSo answer (FailsAmong attempt.now.tried.now w.columns (HasBeside D w attempt.now.client (event_of attempt.now) (option_map (λ p. p.0) point) given.now)
-        (condition_in asked.terms.now asked.condition.now))) }
+        (condition_in asked.now.terms.now asked.now.condition.now))) }
 {
     for (i, client) in attempt.clients.iter().enumerate() {
         let failed = fails_of(alloc, attempt, asked, point, given, i as u32, client)?;
@@ -250,18 +250,18 @@ fn fails_beside(
 fn fails_under(
     alloc: Global,
     attempt: &Attempt<'_>,
-    asked: Asked<'_>,
+    asked: &Asked<'_>,
     point: Option<PointId>,
     acting: &Option<Acting>,
     action: usize,
 ) -> Result<bool, OutOfMemory>
     requires attempt { IsAttempt attempt.now }
     requires acting { IsOnly (IsActing (development_of attempt.now) (world_of attempt.now) attempt.now.client (event_of attempt.now) (event_of attempt.now)) acting.now }
-    requires asked { IsCondition asked.terms.now asked.condition.now }
+    requires asked { IsCondition asked.now.terms.now asked.now.condition.now }
     ensures { let D = development_of attempt.now in
         let w = world_of attempt.now in
         IfOk result (λ answer. SaysSo answer (FailsAmong attempt.now.tried.now w.columns (HaveNumbers D w attempt.now.client (event_of attempt.now) (ByAction action) (option_map (λ p. p.0) point))
-        (condition_in asked.terms.now asked.condition.now))) }
+        (condition_in asked.now.terms.now asked.now.condition.now))) }
 {
     match acting {
         None => Ok(false),
@@ -287,7 +287,7 @@ pub(crate) fn fails_there(
     requires asked { IsCondition terms.now condition.now }
     ensures { IfOk result (λ answer. SaysSo answer (FailsThere (development_of attempt.now) (world_of attempt.now) attempt.now.client (event_of attempt.now) attempt.now.tried.now (condition_in terms.now condition.now))) }
 {
-    let asked = Asked { terms, condition };
+    let asked = &Asked { terms, condition };
     let place = condition.place;
     match place.passage {
         Passage::Nothing => match place.point {
