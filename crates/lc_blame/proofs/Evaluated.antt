@@ -9,7 +9,7 @@ use Rattle.lc_term.specs.Updates.{variable}
 use Rattle.lc_term.specs.View.{term_of}
 use Rattle.lc_term.specs.declared.term.Term.{Term}
 use Rattle.lc_term.proofs.Chained.{every_one_more}
-use Rattle.lc_watch.proofs.Found.{viewed_at}
+use Rattle.lc_blame.proofs.Viewed.{seen_at}
 use Rattle.lc_blame.specs.Blame.{IsEvaluated, AreNumbers}
 
 module _ (columns : ℕ) (m : State) (vs : List ℤ) (terms : List Term) (i : ℕ) where
@@ -23,7 +23,7 @@ module _ (columns : ℕ) (m : State) (vs : List ℤ) (terms : List Term) (i : �
       subst (λ (ts : List S.Term). AreNumbers columns m vs ts new) (sym longer) (every_one_more (IsEvaluated columns m vs) before (term_of t) all seen, numbers)
 
   pub numbers_none : (t : Term) → i < length terms → t ≡ get_or terms i t → (IsEvaluated columns m vs (term_of t) → ⊥) → (ns : List ℤ) → AreNumbers columns m vs (terms_of terms) ns → ⊥
-  numbers_none t lt is not ns (all, same) = not (every_at (IsEvaluated columns m vs) (terms_of terms) i (term_of t) all (viewed_at term_of terms i t lt is))
+  numbers_none t lt is not ns (all, same) = not (every_at (IsEvaluated columns m vs) (terms_of terms) i (term_of t) all (seen_at term_of terms i t lt is))
 
   pub numbers_all : (ns : List ℤ) → length terms ≤ i → AreNumbers columns m vs (terms_of (take i terms)) ns → AreNumbers columns m vs (terms_of terms) ns
   numbers_all ns past so = subst (λ (l : List Term). AreNumbers columns m vs (terms_of l) ns) (take_all i terms past) so

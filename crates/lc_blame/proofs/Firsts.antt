@@ -7,7 +7,7 @@ use Rattle.lc_cond.proofs.Sized.{every_at}
 use Rattle.lc_lemmas.proofs.Lists.{kept_left, get_in_front, get_taken}
 use Rattle.lc_term.specs.Lists.{Every}
 use Rattle.lc_term.proofs.Chained.{every_one_more}
-use Rattle.lc_watch.proofs.Found.{viewed_at}
+use Rattle.lc_blame.proofs.Viewed.{seen_at}
 use Rattle.lc_blame.specs.Blame.{IsFirst}
 
 -- of two lists for which each element is so, it is so of both together
@@ -51,7 +51,7 @@ module _ {A : Type 0} (Is : A → Type 0) where
 
 module _ {A B : Type 0} (Is : B → Type 0) (f : A → B) (xs : List A) (i : ℕ) where
   pub found_at : (x : A) → i < length xs → x ≡ get_or xs i x → Is (f x) → Every (λ y. Is y → ⊥) (map f (take i xs)) → IsFirst Is (map f xs) (Some i)
-  found_at x lt is so none = ((f x, viewed_at f xs i x lt is, so), earlier)
+  found_at x lt is so none = ((f x, seen_at f xs i x lt is, so), earlier)
     where
       earlier : (j : ℕ) (y : B) → j < i → slice_get (map f xs) j ≡ Some y → Is y → ⊥
       earlier j y below e here =
@@ -67,7 +67,7 @@ module _ {A B : Type 0} (Is : B → Type 0) (f : A → B) (xs : List A) (i : ℕ
   none_all past all = subst (λ (l : List A). Every (λ y. Is y → ⊥) (map f l)) (take_all i xs past) all
 
   pub not_none : (x : A) → i < length xs → x ≡ get_or xs i x → Is (f x) → Every (λ y. Is y → ⊥) (map f xs) → ⊥
-  not_none x lt is so none = every_at (λ y. Is y → ⊥) (map f xs) i (f x) none (viewed_at f xs i x lt is) so
+  not_none x lt is so none = every_at (λ y. Is y → ⊥) (map f xs) i (f x) none (seen_at f xs i x lt is) so
 
 -- an element that is read is itself, whatever stands for one that is not there
 pub read_is : {A : Type 0} (xs : List A) (i : ℕ) (d : A) → i < length xs → get_or xs i d ≡ get_or xs i (get_or xs i d)

@@ -1,3 +1,4 @@
+mod Viewed
 mod Evaluated
 mod Firsts
 mod Only

@@ -15,7 +15,7 @@ ghost use Rattle.lc_blame.specs.Blame.{FailsWith, FailsAmong, FailsThere, HasBes
 
 use crate::acting::Acting;
 use crate::attempt::Attempt;
-use crate::placing::{is_at, joined_numbers, own_numbers, place_of};
+use crate::placing::{call_numbers, is_at, joined_numbers, own_numbers, place_of};
 use lc_base::{OpId, OutOfMemory, PointId};
 use lc_cond::{Condition, Passage};
 use lc_copy::formula_tree;
@@ -85,18 +85,19 @@ fn fails_with(
 {
     let goal = &asked.condition.goal;
     let failed = fails(alloc, asked.terms, goal.goal, attempt.state, env, attempt.tried)?;
-    if !failed {
-        return Ok(false);
+    if failed {
+        let hypotheses = goal.hypotheses.as_slice();
+        none_fails(
+            alloc,
+            asked.terms,
+            hypotheses,
+            attempt.state,
+            env,
+            attempt.tried,
+        )
+    } else {
+        Ok(false)
     }
-    let hypotheses = goal.hypotheses.as_slice();
-    none_fails(
-        alloc,
-        asked.terms,
-        hypotheses,
-        attempt.state,
-        env,
-        attempt.tried,
-    )
 }
 
 // Whether a condition about the start fails, whichever client's number its second variable has.
@@ -114,7 +115,7 @@ fn fails_at_start(
 {
     let count = attempt.clients.len() as u32;
     for client in 0..count {
-        let env = own_numbers(alloc, count, client, &[])?;
+        let env = own_numbers(alloc, count, client)?;
         let failed = fails_with(alloc, attempt, asked, &env)?;
         if failed {
             return Ok(true);
@@ -145,7 +146,7 @@ fn fails_at_entry(
                 return Ok(false);
             }
             let count = attempt.clients.len() as u32;
-            let env = own_numbers(alloc, count, attempt.client, numbers)?;
+            let env = call_numbers(alloc, count, attempt.client, numbers)?;
             fails_with(alloc, attempt, asked, &env)
         }
     }
@@ -214,7 +215,11 @@ fn fails_of(
         IfOk result (λ answer. SaysSo answer ((number ≡ attempt.now.client → ⊥) × (point_of k ≡ option_map (λ p. p.0) point)
         × FailsWith attempt.now.tried.now w.columns (numbers_at D w number k ++ pos attempt.now.client ∷ given.now) (condition_in asked.now.terms.now asked.now.condition.now))) }
 {
-    if number == attempt.client || !is_at(client, point) {
+    if number == attempt.client {
+        return Ok(false);
+    }
+    let stands = is_at(client, point);
+    if !stands {
         return Ok(false);
     }
     let count = attempt.clients.len() as u32;
@@ -237,7 +242,8 @@ fn fails_beside(
         IfOk result (λ answer. SaysSo answer (FailsAmong attempt.now.tried.now w.columns (HasBeside D w attempt.now.client (event_of attempt.now) (option_map (λ p. p.0) point) given.now)
         (condition_in asked.now.terms.now asked.now.condition.now))) }
 {
-    for (i, client) in attempt.clients.iter().enumerate() {
+    let clients = attempt.clients;
+    for (i, client) in clients.iter().enumerate() {
         let failed = fails_of(alloc, attempt, asked, point, given, i as u32, client)?;
         if failed {
             return Ok(true);

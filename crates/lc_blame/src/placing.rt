@@ -41,8 +41,18 @@ pub(crate) fn is_at(client: &Client, point: Option<PointId>) -> bool
     }
 }
 
-/// How many clients there are, the number of one, and these numbers.
-pub(crate) fn own_numbers(
+/// How many clients there are, and the number of one.
+pub(crate) fn own_numbers(alloc: Global, clients: u32, client: u32) -> Result<Env, OutOfMemory>
+    ensures { IfOk result (λ env. env.values.items ≡ own clients client) }
+{
+    let mut values = Vec::new(alloc);
+    values.push(i64::from(clients))?;
+    values.push(i64::from(client))?;
+    Ok(Env { values })
+}
+
+/// The same, followed by the numbers with which it begins a call.
+pub(crate) fn call_numbers(
     alloc: Global,
     clients: u32,
     client: u32,
@@ -67,7 +77,7 @@ fn standing_numbers(
     ensures { (D : Development) (w : World) → length w.clients ≡ clients → IfOk result (λ numbers. numbers.items ≡ numbers_at D w number (client_of client.now)) }
 {
     match client {
-        Client::Idle => Ok(own_numbers(alloc, clients, number, &[])?.values),
+        Client::Idle => Ok(own_numbers(alloc, clients, number)?.values),
         Client::In(place) => Ok(Vec::from_slice(alloc, &place.variables.values)?),
     }
 }
