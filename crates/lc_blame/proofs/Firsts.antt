@@ -1,6 +1,7 @@
 -- The first of some things, found part by part.
-use Rattle.std.proofs.Common.{◌≡◌, ℕ, zero, suc, ◌<◌, ◌≤◌, ◌+◌, List, [], ◌∷◌, ◌++◌, map, take, length, get_or, refl, sym, ap, subst, ◌∙◌, arith}
-use Rattle.std.specs.Prelude.{Option, Some, None, option_map, slice_get}
+use Rattle.std.proofs.Common.{◌≡◌, ℕ, zero, suc, true, false, ◌<◌, ◌≤◌, ◌+◌, List, [], ◌∷◌, ◌++◌, map, take, length, get_or, refl, sym, ap, subst, ◌∙◌, arith}
+use Rattle.std.specs.Prelude.{Option, Some, None, option_map, is_some, slice_get}
+use Rattle.std.proofs.lemmas.Bool.{false≢true}
 use Rattle.std.proofs.lemmas.List.{map_more, take_all, get_or_default}
 use Rattle.std.proofs.lemmas.Option.{same_Some, slice_get_within, slice_get-map}
 use Rattle.lc_cond.proofs.Sized.{every_at}
@@ -46,6 +47,19 @@ module _ {A : Type 0} (Is : A → Type 0) where
   pub found_next : (passed cs rest all : List A) (n m : ℕ) → passed ++ (cs ++ rest) ≡ all → m ≡ length passed + n → Every (λ x. Is x → ⊥) passed → IsFirst Is cs (Some n) → IsFirst Is all (Some m)
   found_next passed cs rest all n m same e none first =
       subst (λ (l : List A). IsFirst Is l (Some m)) same (behind passed (cs ++ rest) n m e none (in_longer cs rest n first))
+
+  -- a part of them, in which one was found
+  pub found_in_part : (passed cs rest all : List A) (first : ℕ) (place found : Option ℕ) → passed ++ (cs ++ rest) ≡ all → first ≡ length passed → Every (λ x. Is x → ⊥) passed → IsFirst Is cs place →
+      found ≡ option_map (λ k. first + k) place → is_some found ≡ true → IsFirst Is all found
+  found_in_part passed cs rest all first None found same e none so is some = absurd (false≢true (ap is_some (sym is) ∙ some))
+  found_in_part passed cs rest all first (Some i) found same e none so is some =
+      subst (λ (o : Option ℕ). IsFirst Is all o) (sym is) (found_next passed cs rest all i (first + i) same (omega (arith, e)) none so)
+
+  -- or in which none was
+  pub part_passed : (passed cs : List A) (first : ℕ) (place found : Option ℕ) → Every (λ x. Is x → ⊥) passed → IsFirst Is cs place → found ≡ option_map (λ k. first + k) place → is_some found ≡ false →
+      Every (λ x. Is x → ⊥) (passed ++ cs)
+  part_passed passed cs first None found none so is not = every_joined (λ x. Is x → ⊥) passed cs none so
+  part_passed passed cs first (Some i) found none so is not = absurd (false≢true (sym not ∙ ap is_some is))
 
 -- ---- elements, one after another, each of something
 

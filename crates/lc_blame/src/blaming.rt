@@ -1,5 +1,5 @@
 //! The first condition that fails where a client takes a step.
-ghost use Rattle.std.specs.Prelude.{◌≡◌, IfOk, map};
+ghost use Rattle.std.specs.Prelude.{◌≡◌, ◌+◌, IfOk, map, option_map};
 ghost use Rattle.lc_cond.specs.ConditionView.{condition_in, AreConditions};
 ghost use Rattle.lc_blame.specs.Attempts.{IsAttempt, IsOnly, development_of, world_of, event_of};
 ghost use Rattle.lc_blame.specs.Blame.{FailsThere, IsActing, IsBlamed, IsFirst};
@@ -34,6 +34,19 @@ fn first_failing(
     Ok(None)
 }
 
+// The number of a condition, by its place behind the first one of this number.
+fn numbered(first: u64, place: Option<usize>) -> Result<Option<u64>, OutOfMemory>
+    ensures { IfOk result (λ found. found ≡ option_map (λ k. first + k) place) }
+{
+    match place {
+        None => Ok(None),
+        Some(place) => match first.checked_add(place as u64) {
+            None => Err(OutOfMemory),
+            Some(number) => Ok(Some(number)),
+        },
+    }
+}
+
 /// The number of the first condition of a development that fails where a client takes a step, with numbers that clients have there for its
 /// variables: its goal is seen not to hold in the columns before the step, and none of its hypotheses is.
 pub fn failing_condition(
@@ -48,12 +61,15 @@ pub fn failing_condition(
     'parts: loop {
         let mut terms = Terms::new(alloc);
         let first = stream.first_number();
-        match stream.next_part(attempt.development, &mut terms)? {
+        let part = stream.next_part(attempt.development, &mut terms)?;
+        match part {
             None => return Ok(None),
             Some(conditions) => {
-                match first_failing(alloc, attempt, &acting, &terms, &conditions)? {
-                    Some(place) => return Ok(Some(first + place as u64)),
-                    None => {}
+                let place = first_failing(alloc, attempt, &acting, &terms, &conditions)?;
+                let found = numbered(first, place)?;
+                let failed = found.is_some();
+                if failed {
+                    return Ok(found);
                 }
             }
         }
