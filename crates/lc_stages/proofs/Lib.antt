@@ -1,5 +1,3 @@
 mod Once
 mod Linearized
 mod Refuted
-mod Based
-mod Stored

@@ -1,4 +1,3 @@
 pub mod Scripts
 pub mod Stages
 pub mod Laws
-pub mod Storing
