@@ -1,5 +1,5 @@
-use Rattle.std.proofs.Common.{◌≡◌, ℕ, ◌+◌, List, [], ◌++◌, map, length, sym, ap, subst, ◌∙◌, append_assoc, append-nil, arith}
-use Rattle.std.specs.Prelude.{Option, Vec}
+use Rattle.std.proofs.Common.{◌≡◌, ℕ, ◌+◌, true, false, List, [], ◌++◌, map, length, sym, ap, subst, ◌∙◌, append_assoc, append-nil, arith, rules}
+use Rattle.std.specs.Prelude.{Option, Vec, is_some}
 use Rattle.std.proofs.lemmas.List.{length-map, length-append}
 use Rattle.std.specs.declared.alloc.Global.{Global}
 use Rattle.lc_cond.specs.Conditions as S
@@ -15,6 +15,9 @@ use Rattle.lc_blame.proofs.blaming.failing_condition.Goals as goal
 
 pub parts-init : goal.parts-init
 parts-init c = ([], c.in_ok-stream.ensures.left, c.in_ok-stream.ensures.number, tt)
+
+pub first_failing-requires-clause-acting : goal.first_failing-requires-clause-acting
+first_failing-requires-clause-acting c = c.in_ok-acting.ensures
 
 pub first_failing-requires-clause-conditions : goal.first_failing-requires-clause-conditions
 first_failing-requires-clause-conditions c =
@@ -36,10 +39,11 @@ returns-then-failed c =
     let next : IsPart D ts c.parts.stream c.next_part.new.self items =
     subst (λ (o : Option (Vec Condition Global)). IsNextPart D ts c.parts.stream c.next_part.new.self o) c.in-Some.is c.in_ok-part.ensures.next in
     let same = ap (λ (l : List S.Condition). inv.0 ++ l) (sym (next.left)) ∙ inv.1 in
-    let place : IsFirst Is (map (condition_in ts) items) c.in_ok-place.place =
-    subst (λ (l : List Condition). IsFirst Is (map (condition_in ts) l) c.in_ok-place.place) c.deref.ensures.value c.in_ok-place.ensures in
-    found_in_part Is (inv.0) (map (condition_in ts) items) (conditions_left D c.next_part.new.self) (conditions D) c.first_number-first.result c.in_ok-place.place c.in_ok-found.found same
-    (c.first_number-first.ensures ∙ inv.2) (inv.3) place c.in_ok-found.ensures c.if-failed.true
+    let place : IsFirst Is (map (condition_in ts) items) c.in_ok-place-in-Some.place =
+    subst (λ (l : List Condition). IsFirst Is (map (condition_in ts) l) c.in_ok-place-in-Some.place) c.deref.ensures.value c.in_ok-place-in-Some.ensures in
+    let some : is_some c.in_ok-found-in-Some.found ≡ true = search rules in
+    found_in_part Is (inv.0) (map (condition_in ts) items) (conditions_left D c.next_part.new.self) (conditions D) c.first_number-first.result c.in_ok-place-in-Some.place c.in_ok-found-in-Some.found same
+    (c.first_number-first.ensures ∙ inv.2) (inv.3) place c.in_ok-found-in-Some.ensures some
 
 pub parts-preserved : goal.parts-preserved
 parts-preserved c =
@@ -52,12 +56,13 @@ parts-preserved c =
     let next : IsPart D ts c.parts.stream c.next_part.new.self items =
     subst (λ (o : Option (Vec Condition Global)). IsNextPart D ts c.parts.stream c.next_part.new.self o) c.in-Some.is c.in_ok-part.ensures.next in
     let cs = map (condition_in ts) items in
-    let place : IsFirst Is cs c.in_ok-place.place = subst (λ (l : List Condition). IsFirst Is (map (condition_in ts) l) c.in_ok-place.place) c.deref.ensures.value c.in_ok-place.ensures in
+    let not : is_some c.in_ok-found-in-Some.found ≡ false = search rules in
+    let place : IsFirst Is cs c.in_ok-place-in-Some.place = subst (λ (l : List Condition). IsFirst Is (map (condition_in ts) l) c.in_ok-place-in-Some.place) c.deref.ensures.value c.in_ok-place-in-Some.ensures in
     let total : length (inv.0 ++ cs) ≡ length (inv.0) + length items = length-append (inv.0) cs ∙ ap (λ n. length (inv.0) + n) (length-map items (condition_in ts)) in (
       inv.0 ++ cs,
       append_assoc (inv.0) cs (conditions_left D c.next_part.new.self) ∙ (ap (λ (l : List S.Condition). inv.0 ++ l) (sym (next.left)) ∙ inv.1),
       next.number ∙ (ap (λ n. n + length items) (inv.2) ∙ sym total),
-      part_passed Is (inv.0) cs c.first_number-first.result c.in_ok-place.place c.in_ok-found.found (inv.3) place c.in_ok-found.ensures c.if-failed.false,
+      part_passed Is (inv.0) cs c.first_number-first.result c.in_ok-place-in-Some.place c.in_ok-found-in-Some.found (inv.3) place c.in_ok-found-in-Some.ensures not,
     )
 
 pub parts-smaller : goal.parts-smaller
