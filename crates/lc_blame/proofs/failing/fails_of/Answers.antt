@@ -1,4 +1,4 @@
-use Rattle.std.proofs.Common.{◌≡◌, List, ℤ, pos, ◌∷◌, ◌++◌, sym, subst, rules}
+use Rattle.std.proofs.Common.{◌≡◌, List, ℤ, pos, ◌∷◌, ◌++◌, subst, rules}
 use Rattle.std.specs.Prelude.{IfOk, option_map}
 use Rattle.std.proofs.lemmas.List.{length-map}
 use Rattle.lc_cond.specs.ConditionView.{condition_in}

@@ -1,4 +1,4 @@
-use Rattle.std.proofs.Common.{◌≡◌, ◌<◌, ◌≤◌, List, length, get_or, rules, arith}
+use Rattle.std.proofs.Common.{◌<◌, ◌≤◌, length, get_or, rules, arith}
 use Rattle.lc_table.specs.Tables.{formula_in}
 use Rattle.lc_table.specs.declared.node.FormulaId.{FormulaId}
 use Rattle.lc_table.proofs.Listed.{are_formulas-get}

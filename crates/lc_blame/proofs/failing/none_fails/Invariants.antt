@@ -1,4 +1,4 @@
-use Rattle.std.proofs.Common.{map, take}
+use Rattle.std.proofs.Common.{take}
 use Rattle.lc_term.specs.Lists.{Every}
 use Rattle.lc_term.specs.State.{state_of}
 use Rattle.lc_table.specs.Tables.{formulas_in}
