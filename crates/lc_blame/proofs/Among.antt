@@ -97,9 +97,10 @@ module _ (D : Development) (w : World) (c : ℕ) (what : Option Event) (tried : 
   pub under_as : (point : Option ℕ) (i : ℕ) (a : Acting) → IsOnly (IsActing D w c what what) (Some a) → a.action ≡ i →
       (FailsAmong tried w.columns (HasBeside D w c what point a.numbers.items) k → FailsAmong tried w.columns (HaveNumbers D w c what (ByAction i) point) k)
       × (FailsAmong tried w.columns (HaveNumbers D w c what (ByAction i) point) k → FailsAmong tried w.columns (HasBeside D w c what point a.numbers.items) k)
-  under_as point i a only e =
-      (λ h. (h.0, (a.numbers.items, subst (λ (n : ℕ). IsActing D w c what what n a.numbers.items) e only.0, h.1), h.2),
-      λ h. (h.0, subst (λ (ns : List ℤ). HasBeside D w c what point ns (h.0)) ((only.1 i (h.1.0) (h.1.1)).1) (h.1.2), h.2))
+  under_as point i a only e = (
+    λ h. (h.0, (a.numbers.items, subst (λ (n : ℕ). IsActing D w c what what n a.numbers.items) e only.0, h.1), h.2),
+    λ h. (h.0, subst (λ (ns : List ℤ). HasBeside D w c what point ns (h.0)) ((only.1 i (h.1.0) (h.1.1)).1) (h.1.2), h.2),
+  )
 
   pub under_other : (point : Option ℕ) (i : ℕ) (a : Acting) → IsOnly (IsActing D w c what what) (Some a) → (a.action ≡ i → ⊥) → FailsAmong tried w.columns (HaveNumbers D w c what (ByAction i) point) k → ⊥
   under_other point i a only apart h = apart (sym ((only.1 i (h.1.0) (h.1.1)).0))

@@ -148,10 +148,7 @@ fn leaving(
 }
 
 /// The action that a step is.
-pub(crate) fn action_of(
-    alloc: Global,
-    attempt: &Attempt<'_>,
-) -> Result<Option<Acting>, OutOfMemory>
+pub(crate) fn action_of(alloc: Global, attempt: &Attempt<'_>) -> Result<Option<Acting>, OutOfMemory>
     requires { IsAttempt attempt.now }
     ensures { IfOk result (IsOnly (IsActing (development_of attempt.now) (world_of attempt.now) attempt.now.client (event_of attempt.now) (event_of attempt.now))) }
 {

@@ -47,16 +47,16 @@ fn numbered(first: u64, place: Option<usize>) -> Result<Option<u64>, OutOfMemory
     }
 }
 
-/// The number of the first condition of a development that fails where a client takes a step, with numbers that clients have there for its
-/// variables: its goal is seen not to hold in the columns before the step, and none of its hypotheses is.
-pub fn failing_condition(
+// The number of the first condition of a development that fails where a client takes a step, which is this action.
+fn first_of_all(
     alloc: Global,
     attempt: &Attempt<'_>,
+    acting: &Option<Acting>,
 ) -> Result<Option<u64>, OutOfMemory>
-    requires { IsAttempt attempt.now }
+    requires attempt { IsAttempt attempt.now }
+    requires acting { IsOnly (IsActing (development_of attempt.now) (world_of attempt.now) attempt.now.client (event_of attempt.now) (event_of attempt.now)) acting.now }
     ensures { IfOk result (IsBlamed (development_of attempt.now) (world_of attempt.now) attempt.now.client (event_of attempt.now) attempt.now.tried.now) }
 {
-    let acting = action_of(alloc, attempt)?;
     let mut stream = ConditionStream::new(alloc, attempt.development)?;
     'parts: loop {
         let mut terms = Terms::new(alloc);
@@ -65,7 +65,7 @@ pub fn failing_condition(
         match part {
             None => return Ok(None),
             Some(conditions) => {
-                let place = first_failing(alloc, attempt, &acting, &terms, &conditions)?;
+                let place = first_failing(alloc, attempt, acting, &terms, &conditions)?;
                 let found = numbered(first, place)?;
                 let failed = found.is_some();
                 if failed {
@@ -74,4 +74,14 @@ pub fn failing_condition(
             }
         }
     }
+}
+
+/// The number of the first condition of a development that fails where a client takes a step, with numbers that clients have there for its
+/// variables: its goal is seen not to hold in the columns before the step, and none of its hypotheses is.
+pub fn failing_condition(alloc: Global, attempt: &Attempt<'_>) -> Result<Option<u64>, OutOfMemory>
+    requires { IsAttempt attempt.now }
+    ensures { IfOk result (IsBlamed (development_of attempt.now) (world_of attempt.now) attempt.now.client (event_of attempt.now) attempt.now.tried.now) }
+{
+    let acting = action_of(alloc, attempt)?;
+    first_of_all(alloc, attempt, &acting)
 }

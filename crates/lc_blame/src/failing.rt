@@ -84,7 +84,14 @@ fn fails_with(
     ensures { IfOk result (λ answer. SaysSo answer (FailsWith attempt.now.tried.now (state_of attempt.now.state.now) env.now.values.items (condition_in asked.now.terms.now asked.now.condition.now))) }
 {
     let goal = &asked.condition.goal;
-    let failed = fails(alloc, asked.terms, goal.goal, attempt.state, env, attempt.tried)?;
+    let failed = fails(
+        alloc,
+        asked.terms,
+        goal.goal,
+        attempt.state,
+        env,
+        attempt.tried,
+    )?;
     if failed {
         let hypotheses = goal.hypotheses.as_slice();
         none_fails(

@@ -4,7 +4,7 @@ use Rattle.lc_cond.specs.Conditions.{Condition, conditions}
 use Rattle.lc_cond.specs.Stream.{conditions_left, parts_left, next_number}
 use Rattle.lc_blame.specs.Attempts.{development_of, world_of, event_of}
 use Rattle.lc_blame.specs.Blame.{FailsThere}
-use Rattle.lc_blame.proofs.blaming.failing_condition.Given as goal
+use Rattle.lc_blame.proofs.blaming.first_of_all.Given as goal
 
 -- none of the conditions that were given fails, and the others are left
 abbrev pub invariant-parts : goal.invariant-parts

@@ -11,13 +11,10 @@ use Rattle.lc_term.specs.Lists.{Every}
 use Rattle.lc_blame.specs.Attempts.{development_of, world_of, event_of}
 use Rattle.lc_blame.specs.Blame.{FailsThere, IsFirst}
 use Rattle.lc_blame.proofs.Firsts.{found_in_part, part_passed}
-use Rattle.lc_blame.proofs.blaming.failing_condition.Goals as goal
+use Rattle.lc_blame.proofs.blaming.first_of_all.Goals as goal
 
 pub parts-init : goal.parts-init
 parts-init c = ([], c.in_ok-stream.ensures.left, c.in_ok-stream.ensures.number, tt)
-
-pub first_failing-requires-clause-acting : goal.first_failing-requires-clause-acting
-first_failing-requires-clause-acting c = c.in_ok-acting.ensures
 
 pub first_failing-requires-clause-conditions : goal.first_failing-requires-clause-conditions
 first_failing-requires-clause-conditions c =
