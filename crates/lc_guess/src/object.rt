@@ -154,7 +154,7 @@ fn push_atoms(
         };
         if let Item::List(inside) = part.item() {
             match first_text(inside) {
-                "and" | "or" | "=>" => push_atoms(alloc, atoms, later(inside))?,
+                "and" | "or" | "=>" => push_atoms(alloc, atoms, inside)?,
                 "=" | "<=" | "not" if atoms.len() < MOST_ATOMS => {
                     atoms.push(printed(alloc, part)?)?
                 }

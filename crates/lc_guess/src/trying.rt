@@ -22,14 +22,21 @@ struct Put<'a> {
     value: String,
 }
 
-/// The values that an instruction stores at an edge, beside those that it adds.
-fn values<'a>(seen: Seen<'a, '_>) -> Cursor<'a> {
-    let behind = later(seen.point.code);
-    match (seen.point.word, seen.edge.word) {
-        ("store", _) => within_first(later(behind)),
-        ("cas", "then") => within_first(later(later(behind))),
+/// The values that an instruction of this word may store, beside those that it adds.
+fn values_of<'a>(word: &str, code: Cursor<'a>) -> Cursor<'a> {
+    match word {
+        "store" => within_first(later(later(code))),
+        "cas" => within_first(later(later(later(code)))),
         _ => Cursor::empty(),
     }
+}
+
+/// The values that an instruction stores at an edge, beside those that it adds.
+fn values<'a>(seen: Seen<'a, '_>) -> Cursor<'a> {
+    if seen.edge.word == "else" {
+        return Cursor::empty();
+    }
+    values_of(seen.point.word, seen.point.code)
 }
 
 /// Appends what an update `(COLUMN INDEX VALUE)` with these items stores.
@@ -372,12 +379,7 @@ fn push_intended_at(
     seen: Seen<'_, '_>,
     point: &Point<'_>,
 ) -> Result<(), OutOfMemory> {
-    let behind = later(point.code);
-    let values = match point.word {
-        "store" => within_first(later(behind)),
-        "cas" => within_first(later(later(behind))),
-        _ => return Ok(()),
-    };
+    let values = values_of(point.word, point.code);
     let index = point.index(alloc)?;
     for (column, value) in each_cell(seen.body.object.columns_of(first_text(point.code)), values) {
         let local = text_of(value);
@@ -479,13 +481,8 @@ fn push_apart_at(
     instruction: Cursor<'_>,
 ) -> Result<(), OutOfMemory> {
     let code = later(instruction);
-    let behind = later(code);
-    let values = match first_text(instruction) {
-        "store" => within_first(later(behind)),
-        "cas" => within_first(later(later(behind))),
-        _ => Cursor::empty(),
-    };
-    let index = first_text(behind);
+    let values = values_of(first_text(instruction), code);
+    let index = first_text(later(code));
     if index.is_empty() || has_word(index, &["self"]) {
         return Ok(());
     }
