@@ -1,5 +1,5 @@
 -- What is not valid.
-use Rattle.std.proofs.Common.{◌≡◌, List, [], ◌∷◌, ℤ, sym, subst}
+use Rattle.std.proofs.Common.{◌≡◌, List, [], ◌∷◌, ℤ, subst}
 use Rattle.lc_term.specs.Lists.{Every}
 use Rattle.lc_term.specs.Meaning.{State, outside, Holds, EachHolds}
 use Rattle.lc_term.specs.Syntax.{Formula}

@@ -1,5 +1,5 @@
 -- Which condition fails where a client takes a step, with numbers that clients have there for its variables.
-use Rattle.std.specs.Prelude.{◌≡◌, ℕ, suc, ◌<◌, ℤ, pos, true, List, [], ◌∷◌, ◌++◌, Option, Some, None, IsTrue, length, map, slice_get}
+use Rattle.std.specs.Prelude.{◌≡◌, ℕ, suc, ◌<◌, ℤ, pos, List, [], ◌∷◌, ◌++◌, Option, Some, None, IsTrue, length, map, slice_get}
 use Rattle.lc_term.specs.Lists.{Every}
 use Rattle.lc_term.specs.Meaning.{State, outside, value}
 use Rattle.lc_term.specs.Places.{known, term_passes}
@@ -15,7 +15,7 @@ use Rattle.lc_machine.specs.Step.{Event, Invoked, Moved, Returned, IsClient}
 use Rattle.lc_machine.specs.World.{World, Client, Idle, In}
 use Rattle.lc_rider.specs.Rider.{argument}
 use Rattle.lc_outline.specs.Development.{Development, On, first_system, on_at}
-use Rattle.lc_cond.specs.Conditions.{Condition, Place, Passage, NoPassage, ByEdge, ByAction, conditions}
+use Rattle.lc_cond.specs.Conditions.{Condition, Passage, NoPassage, ByEdge, ByAction, conditions}
 use Rattle.lc_sound.specs.Claims.{own}
 use Rattle.lc_sound.specs.Valid.{IsValid}
 use Rattle.lc_stages.specs.Stages.{numbers_at}
