@@ -4,7 +4,7 @@ pub mod Calling
 mod Lawfully
 mod Happened
 mod Few
-mod Turns
+pub mod Turns
 mod Ending
 mod SeatLists
 mod Reasons

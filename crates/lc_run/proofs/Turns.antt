@@ -196,6 +196,15 @@ well-formed D n ls w few run =
 
 -- ---- the clients of labels
 
+-- a step is one of its clients, and leaves as many
+stepped : (D : Development) (w v : World) (c : ℕ) (what : Event) (marks : List Mark) → Instrumented D w c what marks v → (c < length w.clients) × (length v.clients ≡ length w.clients)
+stepped D w v c (Invoked o ns) marks (mid, (op, is, whole, idle, mid-is), none, v-is) =
+    (slice_get_within w.clients c Idle idle, (ap (λ (x : World). length x.clients) v-is ∙ ap (λ (x : World). length x.clients) mid-is) ∙ length-set w.clients c _)
+stepped D w v c (Moved point edge) marks (mid, reached, variables, m, (vs, i, running, s, next, new, done, mid-is), isc, ride, v-is) =
+    (slice_get_within w.clients c (In point vs) running.client, (ap (λ (x : World). length x.clients) v-is ∙ ap (λ (x : World). length x.clients) mid-is) ∙ length-set w.clients c _)
+stepped D w v c (Returned ns) marks (mid, point, variables, m, isc, (p, vs, i, running, k, s, done, mid-is), ride, just, v-is) =
+    (slice_get_within w.clients c (In p vs) running.client, (ap (λ (x : World). length x.clients) v-is ∙ ap (λ (x : World). length x.clients) mid-is) ∙ length-set w.clients c _)
+
 has-clients : (D : Development) (n : ℕ) (ls : List Label) (w v : World) → length w.clients ≡ n → Runs D w ls v → list_all (has_client n) ls ≡ true
 has-clients D n [] w v count run = refl
 has-clients D n (l ∷ ls) w v count (mid, step, rest) =
@@ -205,13 +214,13 @@ has-clients D n (l ∷ ls) w v count (mid, step, rest) =
     below : (n c : ℕ) → c < n → nat_lt c n ≡ true
     below n c h = grind (arith, nat_tests)
 
-    stepped : (D : Development) (w v : World) (c : ℕ) (what : Event) (marks : List Mark) → Instrumented D w c what marks v → (c < length w.clients) × (length v.clients ≡ length w.clients)
-    stepped D w v c (Invoked o ns) marks (mid, (op, is, whole, idle, mid-is), none, v-is) =
-        (slice_get_within w.clients c Idle idle, (ap (λ (x : World). length x.clients) v-is ∙ ap (λ (x : World). length x.clients) mid-is) ∙ length-set w.clients c _)
-    stepped D w v c (Moved point edge) marks (mid, reached, variables, m, (vs, i, running, s, next, new, done, mid-is), isc, ride, v-is) =
-        (slice_get_within w.clients c (In point vs) running.client, (ap (λ (x : World). length x.clients) v-is ∙ ap (λ (x : World). length x.clients) mid-is) ∙ length-set w.clients c _)
-    stepped D w v c (Returned ns) marks (mid, point, variables, m, isc, (p, vs, i, running, k, s, done, mid-is), ride, just, v-is) =
-        (slice_get_within w.clients c (In p vs) running.client, (ap (λ (x : World). length x.clients) v-is ∙ ap (λ (x : World). length x.clients) mid-is) ∙ length-set w.clients c _)
+counted_run : (D : Development) (ls : List Label) (w v : World) → Runs D w ls v → length v.clients ≡ length w.clients
+counted_run D [] w v run = ap (λ (x : World). length x.clients) run
+counted_run D (l ∷ ls) w v (mid, step, rest) = counted_run D ls mid v rest ∙ (stepped D w mid l.client l.what l.marks step).1
+
+-- a run of n clients leads to a world of as many
+pub run_clients : (D : Development) (n : ℕ) (ls : List Label) (w : World) → IsRun D n ls w → length w.clients ≡ n
+run_clients D n ls w run = counted_run D ls (start_world D n) w run ∙ length-replicate n Idle
 
 -- the labels of a run are its clients'
 pub are-clients : (D : Development) (n : ℕ) (ls : List Label) (w : World) → IsRun D n ls w → list_all (has_client n) ls ≡ true

@@ -12,8 +12,8 @@ use Rattle.lc_base.specs.NameText.{is_name}
 use Rattle.lc_base.specs.declared.name.Name.{Name}
 use Rattle.lc_lib_texts.specs.Names.{lib_named}
 use Rattle.lc_lib_texts.specs.declared.library.Lib.{Lib}
-use Rattle.lc_words.specs.Reading.{beginning_task, begun, drawing_task, is_set, library_task, listed, listing_task, number_given, one_file_task, ordering, ordering_task, proving_task, running_task, showing_task, shown_by, shown_given, text_for, turns_by, turns_given, two_file_task, carrying_task, completing_task}
-use Rattle.lc_words.specs.Tasks.{BeginDevelopment, DrawHistory, FindOrder, MakeWhole, PrintLibrary, RunPlan, Task, is_development_name, proving, showing, carrying}
+use Rattle.lc_words.specs.Reading.{beginning_task, begun, drawing_task, exploring, exploring_task, is_set, library_task, listed, listing_task, number_given, one_file_task, ordering, ordering_task, proving_task, running_task, showing_task, shown_by, shown_given, text_for, turns_by, turns_given, two_file_task, carrying_task, completing_task}
+use Rattle.lc_words.specs.Tasks.{BeginDevelopment, DrawHistory, ExplorePlan, FindOrder, MakeWhole, PrintLibrary, RunPlan, Task, is_development_name, proving, showing, carrying}
 use Rattle.lc_words.specs.declared.request.LibraryText.{LibraryText}
 use Rattle.lc_words.specs.declared.request.Shown.{Shown}
 use Rattle.lc_words.specs.declared.request.Turns.{Turns}
@@ -36,6 +36,12 @@ pub ordering_found : (f : Found) (development history : Text) (check : Bool) (bu
     → check ≡ is_set (codes "check") (rows_of f) → budget ≡ number_given (codes "budget") (rows_of f) → Some (FindOrder development history check budget) ≡ ordering_task (rows_of f)
 ordering_found f development history check budget is is' set given =
     ap₂ (λ x y. Some (FindOrder development history x y)) set given ∙ two_found (ordering (rows_of f)) (codes "HISTORY") f (Some development) (Some history) is is'
+
+-- a development is explored as the option says
+pub exploring_found : (f : Found) (development plan : Text) (budget : Option ℕ) → Some development ≡ first_value f (codes "DEV") → Some plan ≡ first_value f (codes "PLAN")
+    → budget ≡ number_given (codes "budget") (rows_of f) → Some (ExplorePlan development plan budget) ≡ exploring_task (rows_of f)
+exploring_found f development plan budget is is' given =
+    ap (λ y. Some (ExplorePlan development plan y)) given ∙ two_found (exploring (rows_of f)) (codes "PLAN") f (Some development) (Some plan) is is'
 
 -- a short development is made whole as the option says
 pub completing_found : (f : Found) (short : Text) (budget : Option ℕ) → Some short ≡ first_value f (codes "SHORT") → budget ≡ number_given (codes "budget") (rows_of f)

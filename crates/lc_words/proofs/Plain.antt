@@ -14,7 +14,7 @@ use Rattle.lc_lib_texts.specs.declared.library.Lib.{Lib}
 use Rattle.lc_lib_texts.specs.declared.library.Lib.TheVariants.{Counter, Stack, Lock, Snapshot, Combining, Rendezvous, Queue, PoolStack}
 use Rattle.lc_words.specs.Commands.{program_app}
 use Rattle.lc_words.specs.Reading.{AskFor, AskForReasons, checked, is_explained, shown_by, task_in, turns_by}
-use Rattle.lc_words.specs.Tasks.{HasPlainPaths, Task, CheckFormula, JudgeHistory, ShowDevelopment, ShowLines, ListConditions, ListChosen, ShowCondition, OfPoint, OfKind, OfBoth, ReadsFiles, CheckByWorkers, CheckCertificate, ProveDevelopment, ProveWithHints, DrawHistory, BeginDevelopment, FindOrder, MakeWhole, PrintLibrary, RunPlan, is_development_name, is_plain, range_text, words_for, CarryCertificate, CarryWithHints}
+use Rattle.lc_words.specs.Tasks.{HasPlainPaths, Task, CheckFormula, JudgeHistory, ShowDevelopment, ShowLines, ListConditions, ListChosen, ShowCondition, OfPoint, OfKind, OfBoth, ReadsFiles, CheckByWorkers, CheckCertificate, ProveDevelopment, ProveWithHints, DrawHistory, BeginDevelopment, ExplorePlan, FindOrder, MakeWhole, PrintLibrary, RunPlan, is_development_name, is_plain, range_text, words_for, CarryCertificate, CarryWithHints}
 use Rattle.lc_words.specs.declared.request.LibraryText.TheVariants.{Development, Certificate, Hints}
 use Rattle.lc_words.specs.declared.request.Shown.TheVariants.{Whole, Page, Around}
 use Rattle.lc_words.specs.declared.request.Turns.TheVariants.{Free, Drawn, DrawnEach, Traced}
@@ -173,6 +173,11 @@ words_ask_both name (MakeWhole short (Some n)) is =
     let pass = number_passes n is.1 in
     let read = ap (λ (b : Option ℕ). Some (MakeWhole short b)) (number_back n is.1) in
     asked_both name (codes "complete") (plain short is.0 ∷ known (codes "--budget") ∷ plain (decimal n) (numbers_are_plain n is.1) ∷ []) _ refl (ap passed pass, read) (ap passed_too pass, read) refl
+words_ask_both name (ExplorePlan development other None) is = asked_both name (codes "explore") (plain development is.0 ∷ plain other is.1 ∷ []) _ refl (refl, refl) (refl, refl) refl
+words_ask_both name (ExplorePlan development other (Some n)) is =
+    let pass = number_passes n is.2 in
+    let read = ap (λ (b : Option ℕ). Some (ExplorePlan development other b)) (number_back n is.2) in
+    asked_both name (codes "explore") (plain development is.0 ∷ plain other is.1 ∷ known (codes "--budget") ∷ plain (decimal n) (numbers_are_plain n is.2) ∷ []) _ refl (ap passed pass, read) (ap passed_too pass, read) refl
 
 pub words_ask : (name : List ℕ) (task : Task) → HasPlainPaths task → AskFor (words_for name task) task
 words_ask name task is = (words_ask_both name task is).0

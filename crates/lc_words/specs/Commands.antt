@@ -121,6 +121,10 @@ order_app = explained (with_rule order_word_app (number_rule (codes "budget")))
 abbrev pub complete_app : App
 complete_app = explained (with_rule (with_rule (with_rule (new_app (codes "complete")) (file_rule (codes "SHORT"))) (number_rule (codes "budget"))) (flag_rule (codes "progress")))
 
+-- `explore DEV PLAN [--budget N] [--quiet] [--explain]`
+abbrev pub explore_app : App
+explore_app = explained (with_rule (with_rule (with_rule (new_app (codes "explore")) (file_rule (codes "DEV"))) (file_rule (codes "PLAN"))) (number_rule (codes "budget")))
+
 -- a command of this name that has a version and needs a subcommand
 abbrev pub needs_subcommand : Text → App
 needs_subcommand name = record { top = record (new_app name).top { subcommand_required = true; has_version = true }; subs = [] }
@@ -151,4 +155,4 @@ ordering_app = with_subcommand (with_subcommand drawing_app run_app.top) order_a
 
 -- the program and its commands
 abbrev pub program_app : App
-program_app = with_subcommand ordering_app complete_app.top
+program_app = with_subcommand (with_subcommand ordering_app complete_app.top) explore_app.top

@@ -10,7 +10,7 @@ use Rattle.clap.specs.declared.error.kind.ErrorKind.{ErrorKind}
 use Rattle.clap.specs.declared.error.kind.ErrorKind.TheVariants.{DisplayHelp, DisplayVersion}
 use Rattle.lc_lib_texts.specs.Names.{lib_named}
 use Rattle.lc_words.specs.Commands.{program_app}
-use Rattle.lc_words.specs.Tasks.{BeginDevelopment, CheckByWorkers, CheckCertificate, CheckFormula, DrawHistory, FindOrder, JudgeHistory, MakeWhole, PrintLibrary, RunPlan, ShowCondition, Task, is_development_name, listing, proving, showing, task_of, carrying}
+use Rattle.lc_words.specs.Tasks.{BeginDevelopment, CheckByWorkers, CheckCertificate, CheckFormula, DrawHistory, ExplorePlan, FindOrder, JudgeHistory, MakeWhole, PrintLibrary, RunPlan, ShowCondition, Task, is_development_name, listing, proving, showing, task_of, carrying}
 use Rattle.lc_words.specs.declared.request.LibraryText.{LibraryText}
 use Rattle.lc_words.specs.declared.request.LibraryText.TheVariants.{Development, Certificate, Hints}
 use Rattle.lc_words.specs.declared.request.Request.{Request}
@@ -168,6 +168,13 @@ drawing_task rows =
 abbrev pub completing_task : List Row → Option Task
 completing_task rows = option_map (λ short. MakeWhole short (number_given (codes "budget") rows)) (first_of (codes "SHORT") rows)
 
+-- the task of exploring a development by a plan, with these arguments
+abbrev pub exploring : List Row → List ℕ → List ℕ → Task
+exploring rows development plan = ExplorePlan development plan (number_given (codes "budget") rows)
+
+abbrev pub exploring_task : List Row → Option Task
+exploring_task rows = two_file_task (exploring rows) (codes "PLAN") rows
+
 -- the task of a command with its arguments
 abbrev pub task_in_command : Text × List Row → Option Task
 task_in_command c =
@@ -195,7 +202,9 @@ task_in_command c =
     then running_task c.1
     else (if bytes_eq c.0 (codes "order")
     then ordering_task c.1
-    else (if bytes_eq c.0 (codes "complete") then completing_task c.1 else None))))))))))))
+    else (if bytes_eq c.0 (codes "complete")
+    then completing_task c.1
+    else (if bytes_eq c.0 (codes "explore") then exploring_task c.1 else None)))))))))))))
 
 -- the task of a command with its arguments, if there is one
 abbrev pub task_in : Option (Text × List Row) → Option Task

@@ -14,7 +14,7 @@ use Rattle.lc_words.specs.declared.request.Chosen.TheVariants.{Number, Those}
 use Rattle.lc_words.specs.declared.request.LibraryText.{LibraryText}
 use Rattle.lc_words.specs.declared.request.LibraryText.TheVariants.{Development, Certificate, Hints}
 use Rattle.lc_words.specs.declared.request.Request.{Request}
-use Rattle.lc_words.specs.declared.request.Request.TheVariants.{Formula, Judge, Show, Conditions, Check, Prove, Draw, New, Library, Carry, Run, Order, Complete}
+use Rattle.lc_words.specs.declared.request.Request.TheVariants.{Formula, Judge, Show, Conditions, Check, Prove, Draw, New, Library, Carry, Run, Order, Complete, Explore}
 use Rattle.lc_words.specs.declared.request.Shown.{Shown}
 use Rattle.lc_words.specs.declared.request.Shown.TheVariants.{Whole, Page, Around}
 use Rattle.lc_words.specs.declared.request.Turns.{Turns}
@@ -35,8 +35,9 @@ pub data Filter : Type 0 where
 -- step told or not; that the history in one file is drawn by the specification in another, as a picture, as a page, or as a picture of what is
 -- near an entry of the order; that a development with a name is begun; that a text of an object of the library is printed; that an order is
 -- found that linearizes the history in one file by the specification in another, or a word says whether there is one, over as
--- many nodes as a number says, if one is given; or that the short development in a file is made whole, in as many steps for a condition as a
--- number says, if one is given
+-- many nodes as a number says, if one is given; that the short development in a file is made whole, in as many steps for a condition as a
+-- number says, if one is given; or that the development in a file is explored by the plan in another, over as many worlds as a number says,
+-- if one is given
 pub data Task : Type 0 where
   CheckFormula : (path : List ℕ) → Task
   JudgeHistory : (development history : List ℕ) → Task
@@ -57,6 +58,7 @@ pub data Task : Type 0 where
   PrintLibrary : (lib : Lib) (text : LibraryText) → Task
   FindOrder : (development history : List ℕ) (check : Bool) (budget : Option ℕ) → Task
   MakeWhole : (short : List ℕ) (budget : Option ℕ) → Task
+  ExplorePlan : (development plan : List ℕ) (budget : Option ℕ) → Task
 
 -- the task of showing a development, on two lines or laid out
 abbrev pub showing : List ℕ → (lines : Bool) → Task
@@ -109,6 +111,7 @@ task_of (New name) = BeginDevelopment name.now
 task_of (Library lib text) = PrintLibrary lib text
 task_of (Order development history check budget) = FindOrder development.now history.now check budget
 task_of (Complete short budget progress) = MakeWhole short.now budget
+task_of (Explore development plan budget) = ExplorePlan development.now plan.now budget
 
 -- the texts of the words
 abbrev pub texts_of : List (String Global) → List Text
@@ -142,7 +145,7 @@ order_words true None = codes "--check" ∷ []
 order_words false (Some n) = codes "--budget" ∷ decimal n ∷ []
 order_words true (Some n) = codes "--check" ∷ codes "--budget" ∷ decimal n ∷ []
 
--- the option of a number of steps
+-- the option of a number of steps, or of worlds
 abbrev pub budget_words : Option ℕ → List Text
 budget_words None = []
 budget_words (Some n) = codes "--budget" ∷ decimal n ∷ []
@@ -186,6 +189,7 @@ words_for name (BeginDevelopment own) = name ∷ codes "new" ∷ own ∷ []
 words_for name (PrintLibrary lib text) = library_words name (name_of lib) text
 words_for name (FindOrder development history check budget) = name ∷ codes "order" ∷ development ∷ history ∷ order_words check budget
 words_for name (MakeWhole short budget) = name ∷ codes "complete" ∷ short ∷ budget_words budget
+words_for name (ExplorePlan development plan budget) = name ∷ codes "explore" ∷ development ∷ plan ∷ budget_words budget
 
 -- no word of it begins with a hyphen
 abbrev pub HasPlainWords : Filter → Type 0
@@ -228,6 +232,7 @@ HasPlainPaths (BeginDevelopment name) = is_development_name name ≡ true
 HasPlainPaths (PrintLibrary lib text) = Unit {0}
 HasPlainPaths (FindOrder development history check budget) = (is_plain development ≡ true) × (is_plain history ≡ true) × IfSome budget (λ n. n < 2 ^ 64)
 HasPlainPaths (MakeWhole short budget) = (is_plain short ≡ true) × IfSome budget (λ n. n < 2 ^ 64)
+HasPlainPaths (ExplorePlan development plan budget) = (is_plain development ≡ true) × (is_plain plan ≡ true) × IfSome budget (λ n. n < 2 ^ 64)
 
 -- it reads files
 abbrev pub ReadsFiles : Task → Type 0

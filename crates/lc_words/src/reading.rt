@@ -4,7 +4,7 @@ ghost use Rattle.clap.specs.Words.{found_of, kind_of, rows_of, subcommand_of, su
 ghost use Rattle.clap.specs.declared.error.kind.ErrorKind.TheVariants.{OutOfMemory};
 ghost use Rattle.lc_words.specs.Commands.{program_app};
 ghost use Rattle.lc_words.specs.Tasks.{CheckCertificate, CheckFormula, JudgeHistory, Task, chosen_task, path_in, task_of, texts_of};
-ghost use Rattle.lc_words.specs.Reading.{AreWrong, AskFor, AskForHelp, AsksForText, Reads, beginning_task, checking_task, drawing_task, is_explained, is_set, library_task, listed, listing_task, number_given, number_in, one_file_task, ordering_task, parted, proving_task, range_in, running_task, showing_task, task_in, shown_by, text_for, turns_by, two_file_task, carrying_task, checked, completing_task};
+ghost use Rattle.lc_words.specs.Reading.{AreWrong, AskFor, AskForHelp, AsksForText, Reads, beginning_task, checking_task, drawing_task, exploring_task, is_explained, is_set, library_task, listed, listing_task, number_given, number_in, one_file_task, ordering_task, parted, proving_task, range_in, running_task, showing_task, task_in, shown_by, text_for, turns_by, two_file_task, carrying_task, checked, completing_task};
 
 use crate::commands::program;
 use crate::request::{Asked, Chosen, LibraryText, Request, Shown, Turns};
@@ -272,6 +272,19 @@ fn run_request<'a>(command: &ArgMatches<'a>) -> Option<Request<'a>>
     })
 }
 
+fn explore_request<'a>(command: &ArgMatches<'a>) -> Option<Request<'a>>
+    ensures { option_map task_of result ≡ exploring_task (rows_of (found_of command.now)) }
+{
+    let development = command.get_str("DEV")?;
+    let plan = command.get_str("PLAN")?;
+    let budget = number_given(command, "budget");
+    Some(Request::Explore {
+        development,
+        plan,
+        budget,
+    })
+}
+
 /// Whether a flag is set.
 fn is_set(command: &ArgMatches<'_>, name: &str) -> bool
     ensures { result ≡ is_set name.now (rows_of (found_of command.now)) }
@@ -324,6 +337,7 @@ fn request_of<'a>(matches: &ArgMatches<'a>) -> Option<Request<'a>>
         "run" => run_request(command),
         "order" => order_request(command),
         "complete" => complete_request(command),
+        "explore" => explore_request(command),
         _ => None,
     }
 }

@@ -117,6 +117,12 @@ pub enum Request<'a> {
         budget: Option<u64>,
         progress: bool,
     },
+    /// Explore the development in a file by the plan in another, over `budget` worlds, if a number is given.
+    Explore {
+        development: &'a str,
+        plan: &'a str,
+        budget: Option<u64>,
+    },
     /// Print a development of this name to begin with.
     New(&'a str),
     /// Print a text of an object of the library.

@@ -3,6 +3,7 @@ mod Verdicts
 mod Judgements
 mod Drawn
 mod Ordered
+mod Exploring
 mod Completed
 mod OneAnswer
 mod Taken

@@ -15,4 +15,5 @@ pub mod Prove
 pub mod Library
 pub mod Run
 pub mod Printing
+pub mod Explore
 pub mod Execution

@@ -53,7 +53,8 @@ fn first_file(request: Request<'_>) -> Option<NamedFile<'_>> {
         | Request::Conditions { development, .. }
         | Request::Check { development, .. }
         | Request::Prove { development, .. }
-        | Request::Run { development, .. } => named(development, FileKind::Development),
+        | Request::Run { development, .. }
+        | Request::Explore { development, .. } => named(development, FileKind::Development),
         Request::Complete { short, .. } => named(short, FileKind::Development),
         Request::Carry { old, .. } => named(old, FileKind::Development),
         Request::New(_) | Request::Library { .. } => None,
@@ -70,6 +71,7 @@ fn second_file(request: Request<'_>) -> Option<NamedFile<'_>> {
         | Request::Run { certificate, .. }
         | Request::Carry { certificate, .. } => named(certificate, FileKind::Certificate),
         Request::Prove { hints, .. } => named(hints?, FileKind::Hints),
+        Request::Explore { plan, .. } => named(plan, FileKind::Plan),
         _ => None,
     }
 }

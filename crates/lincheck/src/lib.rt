@@ -10,6 +10,7 @@ mod conditions;
 mod disk;
 mod draw;
 mod explain;
+mod explore;
 mod files;
 mod formula;
 mod judge;

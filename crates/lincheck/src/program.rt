@@ -14,6 +14,7 @@ use crate::complete::answer_complete;
 use crate::conditions::answer_conditions;
 use crate::draw::answer_draw;
 use crate::explain::{explain, is_kept};
+use crate::explore::answer_explore;
 use crate::files::Files;
 use crate::formula::answer_formula;
 use crate::judge::answer_judge;
@@ -157,6 +158,14 @@ fn carry_out<'a, R: Threads + Wait + Sync, F: Files, O: Write, E: Write>(
         }
         Request::Complete { short, budget, .. } => {
             let answer = answer_complete(alloc, files, short, budget, &mut telling)?;
+            print_told(out, why, &answer)
+        }
+        Request::Explore {
+            development,
+            plan,
+            budget,
+        } => {
+            let answer = answer_explore(alloc, files, development, plan, budget)?;
             print_told(out, why, &answer)
         }
         Request::New(name) => print_told(out, why, &answer_new(alloc, name)?),

@@ -103,6 +103,14 @@ returns-in_ok-answer-in-Complete-clause-leaves g c =
     (subst (λ (r : Request). AnswersTask (g.F.Files.bytes_at c.args.files.now) (task_of r) answer.text.items answer.status) (sym c.in-Complete.is) c.in_ok-answer-in-Complete.ensures.answers)
     c.print_told-in-Complete.ensures.prints c.print_told-in-Complete.ensures.fails
 
+pub returns-in_ok-answer-in-Explore-clause-leaves : goal.returns-in_ok-answer-in-Explore-clause-leaves
+returns-in_ok-answer-in-Explore-clause-leaves g c =
+    let answer = c.in_ok-answer-in-Explore.answer in
+    leaves_printed (task_of c.args.request) (AnswersTask (g.F.Files.bytes_at c.args.files.now) (task_of c.args.request)) (g.O.Write.contents c.args.out.now)
+    (g.O.Write.contents c.print_told-in-Explore.new.out) answer.text.items answer.status c.print_told-in-Explore.result
+    (subst (λ (r : Request). AnswersTask (g.F.Files.bytes_at c.args.files.now) (task_of r) answer.text.items answer.status) (sym c.in-Explore.is) c.in_ok-answer-in-Explore.ensures.answers)
+    c.print_told-in-Explore.ensures.prints c.print_told-in-Explore.ensures.fails
+
 pub returns-in_ok-answer_new-in-New-clause-leaves : goal.returns-in_ok-answer_new-in-New-clause-leaves
 returns-in_ok-answer_new-in-New-clause-leaves g c =
     let answer = c.in_ok-answer_new-in-New.field-0 in

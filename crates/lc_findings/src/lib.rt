@@ -1,0 +1,7 @@
+//! What exploring a development finds, as it is printed.
+#![tactic(auto)]
+
+mod findings;
+mod printing;
+
+pub use findings::{Findings, find_faults};
