@@ -12,8 +12,8 @@ use Rattle.lc_base.specs.NameText.{is_name}
 use Rattle.lc_base.specs.declared.name.Name.{Name}
 use Rattle.lc_lib_texts.specs.Names.{lib_named}
 use Rattle.lc_lib_texts.specs.declared.library.Lib.{Lib}
-use Rattle.lc_words.specs.Reading.{beginning_task, begun, drawing_task, exploring, exploring_task, is_set, library_task, listed, listing_task, number_given, one_file_task, ordering, ordering_task, proving_task, running_task, showing_task, shown_by, shown_given, text_for, turns_by, turns_given, two_file_task, carrying_task, completing_task}
-use Rattle.lc_words.specs.Tasks.{BeginDevelopment, DrawHistory, ExplorePlan, FindOrder, MakeWhole, PrintLibrary, RunPlan, Task, is_development_name, proving, showing, carrying}
+use Rattle.lc_words.specs.Reading.{beginning_task, begun, drawing_task, exploring_task, is_set, library_task, listed, listing_task, number_given, one_file_task, ordering, ordering_task, proving_task, running_task, setting_by, setting_given, showing_task, shown_by, shown_given, text_for, turns_by, turns_given, two_file_task, carrying_task, completing_task}
+use Rattle.lc_words.specs.Tasks.{BeginDevelopment, DrawHistory, ExploreRuns, FindOrder, MakeWhole, PrintLibrary, RunPlan, Setting, Task, is_development_name, proving, showing, carrying}
 use Rattle.lc_words.specs.declared.request.LibraryText.{LibraryText}
 use Rattle.lc_words.specs.declared.request.Shown.{Shown}
 use Rattle.lc_words.specs.declared.request.Turns.{Turns}
@@ -37,11 +37,19 @@ pub ordering_found : (f : Found) (development history : Text) (check : Bool) (bu
 ordering_found f development history check budget is is' set given =
     ap₂ (λ x y. Some (FindOrder development history x y)) set given ∙ two_found (ordering (rows_of f)) (codes "HISTORY") f (Some development) (Some history) is is'
 
--- a development is explored as the option says
-pub exploring_found : (f : Found) (development plan : Text) (budget : Option ℕ) → Some development ≡ first_value f (codes "DEV") → Some plan ≡ first_value f (codes "PLAN")
-    → budget ≡ number_given (codes "budget") (rows_of f) → Some (ExplorePlan development plan budget) ≡ exploring_task (rows_of f)
-exploring_found f development plan budget is is' given =
-    ap (λ y. Some (ExplorePlan development plan y)) given ∙ two_found (exploring (rows_of f)) (codes "PLAN") f (Some development) (Some plan) is is'
+-- the task of exploring a development, if clap finds its path, and which calls clients make
+pub exploring_found : (f : Found) (development : Option Text) (setting : Option Setting) (budget : Option ℕ) → development ≡ first_value f (codes "DEV") → setting ≡ setting_given (rows_of f)
+    → budget ≡ number_given (codes "budget") (rows_of f) → option_and_then (λ d. option_map (λ s. ExploreRuns d s budget) setting) development ≡ exploring_task (rows_of f)
+exploring_found f development setting budget is is_setting given =
+    ap₂ (λ x y. option_and_then (λ d. option_map (λ s. ExploreRuns d s budget) y) x) (is ∙ first_value-rows f (codes "DEV")) is_setting
+    ∙ ap (λ b. option_and_then (λ d. option_map (λ s. ExploreRuns d s b) (setting_given (rows_of f))) (first_of (codes "DEV") (rows_of f))) given
+
+pub setting_found : (f : Found) (plan : Option Text) (clients calls : Option ℕ) (numbers : Option Text) (setting : Option Setting) → plan ≡ first_value f (codes "PLAN")
+    → clients ≡ number_given (codes "clients") (rows_of f) → calls ≡ number_given (codes "calls") (rows_of f) → numbers ≡ first_value f (codes "numbers") → setting ≡ setting_by plan clients calls numbers
+    → setting ≡ setting_given (rows_of f)
+setting_found f plan clients calls numbers setting is_plan is_clients is_calls is_numbers is =
+    is ∙ ap₂ (λ x y. setting_by x y calls numbers) (is_plan ∙ first_value-rows f (codes "PLAN")) is_clients
+    ∙ ap₂ (setting_by (first_of (codes "PLAN") (rows_of f)) (number_given (codes "clients") (rows_of f))) is_calls (is_numbers ∙ first_value-rows f (codes "numbers"))
 
 -- a short development is made whole as the option says
 pub completing_found : (f : Found) (short : Text) (budget : Option ℕ) → Some short ≡ first_value f (codes "SHORT") → budget ≡ number_given (codes "budget") (rows_of f)

@@ -1,5 +1,5 @@
 -- The words of each task are read as that task, and nothing is wrong in them.
-use Rattle.std.proofs.Common.{◌≡◌, ℕ, ◌==◌, ◌&&◌, Bool, true, false, not, true≢false, codes, List, [], ◌∷◌, Option, Some, None, eqb-true, refl, sym, ◌∙◌, ap, ap₂, subst}
+use Rattle.std.proofs.Common.{◌≡◌, ℕ, ◌==◌, ◌≤◌, ◌<◌, ◌^◌, ◌&&◌, Bool, true, false, not, true≢false, codes, List, [], ◌∷◌, Option, Some, None, eqb-true, refl, sym, ◌∙◌, ap, ap₂, subst}
 use Rattle.std.specs.Fmt.{decimal}
 use Rattle.std.specs.Prelude.{◌++◌, if◌then◌else◌, option_and_then, option_map}
 use Rattle.clap.specs.Words.{Text, built, is_simple, is_simple_and_free}
@@ -13,8 +13,9 @@ use Rattle.lc_lib_texts.specs.Names.{name_of}
 use Rattle.lc_lib_texts.specs.declared.library.Lib.{Lib}
 use Rattle.lc_lib_texts.specs.declared.library.Lib.TheVariants.{Counter, Stack, Lock, Snapshot, Combining, Rendezvous, Queue, PoolStack}
 use Rattle.lc_words.specs.Commands.{program_app}
-use Rattle.lc_words.specs.Reading.{AskFor, AskForReasons, checked, is_explained, shown_by, task_in, turns_by}
-use Rattle.lc_words.specs.Tasks.{HasPlainPaths, Task, CheckFormula, JudgeHistory, ShowDevelopment, ShowLines, ListConditions, ListChosen, ShowCondition, OfPoint, OfKind, OfBoth, ReadsFiles, CheckByWorkers, CheckCertificate, ProveDevelopment, ProveWithHints, DrawHistory, BeginDevelopment, ExplorePlan, FindOrder, MakeWhole, PrintLibrary, RunPlan, is_development_name, is_plain, range_text, words_for, CarryCertificate, CarryWithHints}
+use Rattle.lc_words.specs.Limits.{size_limit}
+use Rattle.lc_words.specs.Reading.{AskFor, AskForReasons, checked, is_explained, number_in, setting_by, shown_by, task_in, turns_by}
+use Rattle.lc_words.specs.Tasks.{HasPlainPaths, Task, CheckFormula, JudgeHistory, ShowDevelopment, ShowLines, ListConditions, ListChosen, ShowCondition, OfPoint, OfKind, OfBoth, ReadsFiles, CheckByWorkers, CheckCertificate, ProveDevelopment, ProveWithHints, DrawHistory, BeginDevelopment, ByPlan, OfSize, ExploreRuns, FindOrder, MakeWhole, PrintLibrary, RunPlan, is_development_name, is_plain, range_text, words_for, CarryCertificate, CarryWithHints}
 use Rattle.lc_words.specs.declared.request.LibraryText.TheVariants.{Development, Certificate, Hints}
 use Rattle.lc_words.specs.declared.request.Shown.TheVariants.{Whole, Page, Around}
 use Rattle.lc_words.specs.declared.request.Turns.TheVariants.{Free, Drawn, DrawnEach, Traced}
@@ -82,6 +83,16 @@ asked_both name word ps task met is too told = (
 abbrev worker_pieces : (development certificate : List ℕ) (workers : ℕ) → HasPlainPaths (CheckByWorkers development certificate workers) → List Piece
 worker_pieces development certificate workers is =
     plain development is.0 ∷ plain certificate is.1 ∷ known (codes "--workers") ∷ plain (decimal workers) (numbers_are_plain workers (workers_are_few workers is.3)) ∷ []
+
+-- and those of a size
+abbrev sizes : (clients calls : ℕ) → clients ≤ size_limit → calls ≤ size_limit → List Piece
+sizes clients calls few few_too =
+    known (codes "--clients") ∷ plain (decimal clients) (numbers_are_plain clients (workers_are_few clients few))
+    ∷ known (codes "--calls") ∷ plain (decimal calls) (numbers_are_plain calls (workers_are_few calls few_too)) ∷ []
+
+-- and those of a budget
+abbrev within : (b : ℕ) → b < 2 ^ 64 → List Piece
+within b small = known (codes "--budget") ∷ plain (decimal b) (numbers_are_plain b small) ∷ []
 
 -- the test that they pass, alone and with a flag after them, if this is what the number passes
 abbrev passed : Bool → Bool
@@ -173,11 +184,30 @@ words_ask_both name (MakeWhole short (Some n)) is =
     let pass = number_passes n is.1 in
     let read = ap (λ (b : Option ℕ). Some (MakeWhole short b)) (number_back n is.1) in
     asked_both name (codes "complete") (plain short is.0 ∷ known (codes "--budget") ∷ plain (decimal n) (numbers_are_plain n is.1) ∷ []) _ refl (ap passed pass, read) (ap passed_too pass, read) refl
-words_ask_both name (ExplorePlan development other None) is = asked_both name (codes "explore") (plain development is.0 ∷ plain other is.1 ∷ []) _ refl (refl, refl) (refl, refl) refl
-words_ask_both name (ExplorePlan development other (Some n)) is =
-    let pass = number_passes n is.2 in
-    let read = ap (λ (b : Option ℕ). Some (ExplorePlan development other b)) (number_back n is.2) in
-    asked_both name (codes "explore") (plain development is.0 ∷ plain other is.1 ∷ known (codes "--budget") ∷ plain (decimal n) (numbers_are_plain n is.2) ∷ []) _ refl (ap passed pass, read) (ap passed_too pass, read) refl
+words_ask_both name (ExploreRuns development (ByPlan other) None) is = asked_both name (codes "explore") (plain development is.0 ∷ plain other is.1 ∷ []) _ refl (refl, refl) (refl, refl) refl
+words_ask_both name (ExploreRuns development (ByPlan other) (Some b)) is =
+    let pass = number_passes b is.2 in
+    let read = ap (λ (x : Option ℕ). Some (ExploreRuns development (ByPlan other) x)) (number_back b is.2) in
+    asked_both name (codes "explore") (plain development is.0 ∷ plain other is.1 ∷ known (codes "--budget") ∷ plain (decimal b) (numbers_are_plain b is.2) ∷ []) _ refl (ap passed pass, read) (ap passed_too pass, read) refl
+words_ask_both name (ExploreRuns development (OfSize clients calls None) None) is =
+    let pass = workers_pass clients is.1.0 is.1.1 in
+    let pass_too = workers_pass calls is.1.2 is.1.3 in
+    let read = ap₂ (λ (n m : Option ℕ). option_map (λ s. ExploreRuns development s None) (setting_by None n m None)) (number_back clients (workers_are_few clients is.1.1)) (number_back calls (workers_are_few calls is.1.3)) in
+    asked_both name (codes "explore") (plain development is.0 ∷ sizes clients calls is.1.1 is.1.3) _ refl (ap₂ both_passed pass pass_too, read) (ap₂ both_passed_too pass pass_too, read) refl
+words_ask_both name (ExploreRuns development (OfSize clients calls None) (Some b)) is =
+    let read = ap₂ (λ (n m : Option ℕ). option_map (λ s. ExploreRuns development s (number_in (decimal b))) (setting_by None n m None)) (number_back clients (workers_are_few clients is.1.1)) (number_back calls (workers_are_few calls is.1.3))
+    ∙ ap (λ (x : Option ℕ). Some (ExploreRuns development (OfSize clients calls None) x)) (number_back b is.2) in
+    asked_both name (codes "explore") (plain development is.0 ∷ sizes clients calls is.1.1 is.1.3 ++ within b is.2) _ refl (?, read) (?, read) refl
+words_ask_both name (ExploreRuns development (OfSize clients calls (Some text)) None) is =
+    let pass = workers_pass clients is.1.0 is.1.1 in
+    let pass_too = workers_pass calls is.1.2 is.1.3 in
+    let read = ap₂ (λ (n m : Option ℕ). option_map (λ s. ExploreRuns development s None) (setting_by None n m (Some text))) (number_back clients (workers_are_few clients is.1.1)) (number_back calls (workers_are_few calls is.1.3))
+    ∙ ap (λ t. option_map (λ s. ExploreRuns development s None) (if t then Some (OfSize clients calls (Some text)) else None)) is.1.5 in
+    asked_both name (codes "explore") (plain development is.0 ∷ sizes clients calls is.1.1 is.1.3 ++ known (codes "--numbers") ∷ plain text is.1.4 ∷ []) _ refl (?, read) (?, read) refl
+words_ask_both name (ExploreRuns development (OfSize clients calls (Some text)) (Some b)) is =
+    let read = ap₂ (λ (n m : Option ℕ). option_map (λ s. ExploreRuns development s (number_in (decimal b))) (setting_by None n m (Some text))) (number_back clients (workers_are_few clients is.1.1)) (number_back calls (workers_are_few calls is.1.3))
+    ∙ ap₂ (λ t (x : Option ℕ). option_map (λ s. ExploreRuns development s x) (if t then Some (OfSize clients calls (Some text)) else None)) is.1.5 (number_back b is.2) in
+    asked_both name (codes "explore") (plain development is.0 ∷ sizes clients calls is.1.1 is.1.3 ++ known (codes "--numbers") ∷ plain text is.1.4 ∷ within b is.2) _ refl (?, read) (?, read) refl
 
 pub words_ask : (name : List ℕ) (task : Task) → HasPlainPaths task → AskFor (words_for name task) task
 words_ask name task is = (words_ask_both name task is).0

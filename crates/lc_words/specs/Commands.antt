@@ -3,7 +3,7 @@ use Rattle.std.specs.Prelude.{true, codes, [], Some}
 use Rattle.clap.specs.Words.{App, Rule, Text, new_app, new_rule, with_rule, with_subcommand}
 use Rattle.clap.specs.declared.builder.action.ArgAction.TheVariants.{Set, SetTrue}
 use Rattle.clap.specs.declared.builder.value_parser.ValueParser.TheVariants.{Unsigned}
-use Rattle.lc_words.specs.Limits.{worker_limit}
+use Rattle.lc_words.specs.Limits.{size_limit, worker_limit}
 
 -- a required argument that names a file
 abbrev pub file_rule : Text → Rule
@@ -121,9 +121,25 @@ order_app = explained (with_rule order_word_app (number_rule (codes "budget")))
 abbrev pub complete_app : App
 complete_app = explained (with_rule (with_rule (with_rule (new_app (codes "complete")) (file_rule (codes "SHORT"))) (number_rule (codes "budget"))) (flag_rule (codes "progress")))
 
--- `explore DEV PLAN [--budget N] [--quiet] [--explain]`
+-- an argument that names a file, and may be left out
+abbrev pub further_rule : Text → Rule
+further_rule name = record (new_rule name) { action = Some Set }
+
+-- an option with a number of clients, or of calls, from 1 to their limit
+abbrev pub size_rule : Text → Rule
+size_rule name = record (option_rule name) { parser = Some (Unsigned 1 size_limit) }
+
+-- `explore DEV [PLAN]`
+abbrev pub explore_files_app : App
+explore_files_app = with_rule (with_rule (new_app (codes "explore")) (file_rule (codes "DEV"))) (further_rule (codes "PLAN"))
+
+-- `explore DEV [PLAN] [--clients N] [--calls M] [--numbers A,B,..]`
+abbrev pub explore_size_app : App
+explore_size_app = with_rule (with_rule (with_rule explore_files_app (size_rule (codes "clients"))) (size_rule (codes "calls"))) (option_rule (codes "numbers"))
+
+-- `explore DEV [PLAN] [--clients N] [--calls M] [--numbers A,B,..] [--budget N] [--quiet] [--explain]`
 abbrev pub explore_app : App
-explore_app = explained (with_rule (with_rule (with_rule (new_app (codes "explore")) (file_rule (codes "DEV"))) (file_rule (codes "PLAN"))) (number_rule (codes "budget")))
+explore_app = explained (with_rule explore_size_app (number_rule (codes "budget")))
 
 -- a command of this name that has a version and needs a subcommand
 abbrev pub needs_subcommand : Text → App

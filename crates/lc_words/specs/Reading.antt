@@ -1,5 +1,5 @@
 -- What is read in words, in the terms in which clap's calls state it.
-use Rattle.std.specs.Prelude.{◌≡◌, ◌⊎◌, ℕ, ◌==◌, nat_lt, length, Bool, true, false, if◌then◌else◌, codes, List, [], Option, Some, None, option_and_then, option_map}
+use Rattle.std.specs.Prelude.{◌≡◌, ◌⊎◌, ℕ, ◌==◌, nat_lt, length, Bool, true, false, if◌then◌else◌, codes, List, [], Option, Some, None, is_some, option_and_then, option_map}
 use Rattle.std.specs.List.{after_first, before_first, position_or_len}
 use Rattle.std.specs.Option.{option_map_or}
 use Rattle.std.specs.Str.{bytes_eq}
@@ -9,8 +9,9 @@ use Rattle.clap.specs.Words.{IsAmong, Row, Text, fault_of, first_of, subcommand_
 use Rattle.clap.specs.declared.error.kind.ErrorKind.{ErrorKind}
 use Rattle.clap.specs.declared.error.kind.ErrorKind.TheVariants.{DisplayHelp, DisplayVersion}
 use Rattle.lc_lib_texts.specs.Names.{lib_named}
+use Rattle.lc_numbers.specs.Numbers.{whole_numbers_in}
 use Rattle.lc_words.specs.Commands.{program_app}
-use Rattle.lc_words.specs.Tasks.{BeginDevelopment, CheckByWorkers, CheckCertificate, CheckFormula, DrawHistory, ExplorePlan, FindOrder, JudgeHistory, MakeWhole, PrintLibrary, RunPlan, ShowCondition, Task, is_development_name, listing, proving, showing, task_of, carrying}
+use Rattle.lc_words.specs.Tasks.{BeginDevelopment, CheckByWorkers, CheckCertificate, CheckFormula, DrawHistory, ExploreRuns, FindOrder, JudgeHistory, MakeWhole, PrintLibrary, RunPlan, Setting, ByPlan, OfSize, ShowCondition, Task, is_development_name, listing, proving, showing, task_of, carrying}
 use Rattle.lc_words.specs.declared.request.LibraryText.{LibraryText}
 use Rattle.lc_words.specs.declared.request.LibraryText.TheVariants.{Development, Certificate, Hints}
 use Rattle.lc_words.specs.declared.request.Request.{Request}
@@ -168,12 +169,21 @@ drawing_task rows =
 abbrev pub completing_task : List Row → Option Task
 completing_task rows = option_map (λ short. MakeWhole short (number_given (codes "budget") rows)) (first_of (codes "SHORT") rows)
 
--- the task of exploring a development by a plan, with these arguments
-abbrev pub exploring : List Row → List ℕ → List ℕ → Task
-exploring rows development plan = ExplorePlan development plan (number_given (codes "budget") rows)
+-- which calls clients make: those of a plan, or any, by how many clients there are and how many calls each makes; these exclude each other
+abbrev pub setting_by : (plan : Option Text) (clients calls : Option ℕ) (numbers : Option Text) → Option Setting
+setting_by (Some plan) None None None = Some (ByPlan plan)
+setting_by None (Some clients) (Some calls) None = Some (OfSize clients calls None)
+setting_by None (Some clients) (Some calls) (Some text) = if is_some (whole_numbers_in text) then Some (OfSize clients calls (Some text)) else None
+setting_by _ _ _ _ = None
 
+-- as these arguments say
+abbrev pub setting_given : List Row → Option Setting
+setting_given rows = setting_by (first_of (codes "PLAN") rows) (number_given (codes "clients") rows) (number_given (codes "calls") rows) (first_of (codes "numbers") rows)
+
+-- the task of exploring a development with these arguments
 abbrev pub exploring_task : List Row → Option Task
-exploring_task rows = two_file_task (exploring rows) (codes "PLAN") rows
+exploring_task rows =
+    option_and_then (λ development. option_map (λ setting. ExploreRuns development setting (number_given (codes "budget") rows)) (setting_given rows)) (first_of (codes "DEV") rows)
 
 -- the task of a command with its arguments
 abbrev pub task_in_command : Text × List Row → Option Task

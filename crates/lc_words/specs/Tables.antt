@@ -3,14 +3,15 @@ use Rattle.std.specs.Prelude.{List, codes, fold, Some}
 use Rattle.std.specs.Borrow.{Bor}
 use Rattle.clap.specs.Words.{App, Rule, new_app, with_rule, with_subcommand}
 use Rattle.clap.specs.declared.builder.value_parser.ValueParser.TheVariants.{Unsigned}
-use Rattle.lc_words.specs.Commands.{file_rule, flag_rule, needs_subcommand, option_rule}
+use Rattle.lc_words.specs.Commands.{file_rule, flag_rule, further_rule, needs_subcommand, option_rule}
 use Rattle.lc_words.specs.declared.commands.Argument.{Argument}
-use Rattle.lc_words.specs.declared.commands.Argument.TheVariants.{Place, Value, Number, Flag}
+use Rattle.lc_words.specs.declared.commands.Argument.TheVariants.{Place, Further, Value, Number, Flag}
 use Rattle.lc_words.specs.declared.commands.Described.{Described}
 
 -- the rule of an argument
 abbrev pub rule_for : Argument → Rule
 rule_for (Place name help) = file_rule name.now
+rule_for (Further name help) = further_rule name.now
 rule_for (Value name value help) = option_rule name.now
 rule_for (Number name help least most) = record (option_rule name.now) { parser = Some (Unsigned least most) }
 rule_for (Flag name help) = flag_rule name.now

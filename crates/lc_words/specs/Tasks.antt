@@ -1,12 +1,13 @@
 -- What may be asked for, and the words that ask for it.
-use Rattle.std.specs.Prelude.{◌≡◌, ◌≤◌, ◌<◌, ◌^◌, ℕ, ◌==◌, ◌&&◌, nat_le, length, map, string_bytes, String, Bool, true, false, not, codes, List, [], ◌∷◌, ◌++◌, Option, Some, None, IfSome, option_map}
+use Rattle.std.specs.Prelude.{◌≡◌, ◌≤◌, ◌<◌, ◌^◌, ℕ, ◌==◌, ◌&&◌, nat_le, length, map, string_bytes, String, Bool, true, false, not, codes, List, [], ◌∷◌, ◌++◌, Option, Some, None, IfSome, is_some, option_map}
 use Rattle.std.specs.Borrow.{Bor}
 use Rattle.std.specs.Fmt.{decimal}
 use Rattle.std.specs.declared.alloc.Global.{Global}
 use Rattle.clap.specs.Words.{Text}
 use Rattle.lc_base.specs.Limits.{name_limit}
-use Rattle.lc_words.specs.Limits.{worker_limit}
+use Rattle.lc_words.specs.Limits.{size_limit, worker_limit}
 use Rattle.lc_base.specs.NameText.{is_name}
+use Rattle.lc_numbers.specs.Numbers.{whole_numbers_in}
 use Rattle.lc_lib_texts.specs.Names.{name_of}
 use Rattle.lc_lib_texts.specs.declared.library.Lib.{Lib}
 use Rattle.lc_words.specs.declared.request.Chosen.{Chosen}
@@ -15,6 +16,8 @@ use Rattle.lc_words.specs.declared.request.LibraryText.{LibraryText}
 use Rattle.lc_words.specs.declared.request.LibraryText.TheVariants.{Development, Certificate, Hints}
 use Rattle.lc_words.specs.declared.request.Request.{Request}
 use Rattle.lc_words.specs.declared.request.Request.TheVariants.{Formula, Judge, Show, Conditions, Check, Prove, Draw, New, Library, Carry, Run, Order, Complete, Explore}
+use Rattle.lc_words.specs.declared.request.Scope.{Scope}
+use Rattle.lc_words.specs.declared.request.Scope.TheVariants.{Plan, Size}
 use Rattle.lc_words.specs.declared.request.Shown.{Shown}
 use Rattle.lc_words.specs.declared.request.Shown.TheVariants.{Whole, Page, Around}
 use Rattle.lc_words.specs.declared.request.Turns.{Turns}
@@ -26,6 +29,12 @@ pub data Filter : Type 0 where
   OfKind : (kind : List ℕ) → Filter
   OfBoth : (point kind : List ℕ) → Filter
 
+-- Which calls clients make while a development is explored: those of the plan in a file; or any, so many clients each so many, with the numbers
+-- that a text says, if one is given
+pub data Setting : Type 0 where
+  ByPlan : (plan : List ℕ) → Setting
+  OfSize : (clients calls : ℕ) (numbers : Option (List ℕ)) → Setting
+
 -- What may be asked for: that the proof in the file at a path is checked; that the history in one file is judged by the specification in
 -- another; that the development in a file is shown, or laid out over lines; that its conditions are listed, or those that are chosen, or
 -- one is shown by its number; that the certificate in one file is checked against the development in another, by itself or by a number of
@@ -36,8 +45,8 @@ pub data Filter : Type 0 where
 -- near an entry of the order; that a development with a name is begun; that a text of an object of the library is printed; that an order is
 -- found that linearizes the history in one file by the specification in another, or a word says whether there is one, over as
 -- many nodes as a number says, if one is given; that the short development in a file is made whole, in as many steps for a condition as a
--- number says, if one is given; or that the development in a file is explored by the plan in another, over as many worlds as a number says,
--- if one is given
+-- number says, if one is given; or that the development in a file is explored, whose clients make such calls, over as many worlds as a
+-- number says, if one is given
 pub data Task : Type 0 where
   CheckFormula : (path : List ℕ) → Task
   JudgeHistory : (development history : List ℕ) → Task
@@ -58,7 +67,7 @@ pub data Task : Type 0 where
   PrintLibrary : (lib : Lib) (text : LibraryText) → Task
   FindOrder : (development history : List ℕ) (check : Bool) (budget : Option ℕ) → Task
   MakeWhole : (short : List ℕ) (budget : Option ℕ) → Task
-  ExplorePlan : (development plan : List ℕ) (budget : Option ℕ) → Task
+  ExploreRuns : (development : List ℕ) (setting : Setting) (budget : Option ℕ) → Task
 
 -- the task of showing a development, on two lines or laid out
 abbrev pub showing : List ℕ → (lines : Bool) → Task
@@ -96,6 +105,11 @@ abbrev pub chosen_task : List ℕ → Chosen → Task
 chosen_task development (Number number) = ShowCondition development number
 chosen_task development (Those point kind) = listing development (path_in point) (path_in kind)
 
+-- the calls that clients make
+abbrev pub setting_of : Scope → Setting
+setting_of (Plan plan) = ByPlan plan.now
+setting_of (Size clients calls numbers) = OfSize clients calls (path_in numbers)
+
 -- the task of a request
 abbrev pub task_of : Request → Task
 task_of (Formula path) = CheckFormula path.now
@@ -111,7 +125,7 @@ task_of (New name) = BeginDevelopment name.now
 task_of (Library lib text) = PrintLibrary lib text
 task_of (Order development history check budget) = FindOrder development.now history.now check budget
 task_of (Complete short budget progress) = MakeWhole short.now budget
-task_of (Explore development plan budget) = ExplorePlan development.now plan.now budget
+task_of (Explore development scope budget) = ExploreRuns development.now (setting_of scope) budget
 
 -- the texts of the words
 abbrev pub texts_of : List (String Global) → List Text
@@ -168,6 +182,12 @@ shown_words Whole = []
 shown_words Page = codes "--html" ∷ []
 shown_words (Around place width) = codes "--around" ∷ decimal place ∷ codes "--width" ∷ decimal width ∷ []
 
+-- the words that say which calls clients make
+abbrev pub setting_words : Setting → List Text
+setting_words (ByPlan plan) = plan ∷ []
+setting_words (OfSize clients calls None) = codes "--clients" ∷ decimal clients ∷ codes "--calls" ∷ decimal calls ∷ []
+setting_words (OfSize clients calls (Some text)) = codes "--clients" ∷ decimal clients ∷ codes "--calls" ∷ decimal calls ∷ codes "--numbers" ∷ text ∷ []
+
 -- the words that ask for a task, after the name of the program
 abbrev pub words_for : List ℕ → Task → List Text
 words_for name (CheckFormula path) = name ∷ codes "formula" ∷ path ∷ []
@@ -189,7 +209,7 @@ words_for name (BeginDevelopment own) = name ∷ codes "new" ∷ own ∷ []
 words_for name (PrintLibrary lib text) = library_words name (name_of lib) text
 words_for name (FindOrder development history check budget) = name ∷ codes "order" ∷ development ∷ history ∷ order_words check budget
 words_for name (MakeWhole short budget) = name ∷ codes "complete" ∷ short ∷ budget_words budget
-words_for name (ExplorePlan development plan budget) = name ∷ codes "explore" ∷ development ∷ plan ∷ budget_words budget
+words_for name (ExploreRuns development setting budget) = name ∷ codes "explore" ∷ development ∷ setting_words setting ++ budget_words budget
 
 -- no word of it begins with a hyphen
 abbrev pub HasPlainWords : Filter → Type 0
@@ -210,6 +230,13 @@ abbrev pub IsShownSo : Shown → Type 0
 IsShownSo Whole = Unit {0}
 IsShownSo Page = Unit {0}
 IsShownSo (Around place width) = (place < 2 ^ 64) × (width < 2 ^ 64)
+
+-- the path of the plan begins with no hyphen; or clients and calls are within their limit, and the text says numbers, the first without a sign
+abbrev pub IsSmall : Setting → Type 0
+IsSmall (ByPlan plan) = is_plain plan ≡ true
+IsSmall (OfSize clients calls None) = (1 ≤ clients) × (clients ≤ size_limit) × (1 ≤ calls) × (calls ≤ size_limit)
+IsSmall (OfSize clients calls (Some text)) =
+    (1 ≤ clients) × (clients ≤ size_limit) × (1 ≤ calls) × (calls ≤ size_limit) × (is_plain text ≡ true) × (is_some (whole_numbers_in text) ≡ true)
 
 -- none of its paths begins with a hyphen, what is to be a name is one, a number has 64 bits, and workers are from 1 to their limit
 abbrev pub HasPlainPaths : Task → Type 0
@@ -232,7 +259,7 @@ HasPlainPaths (BeginDevelopment name) = is_development_name name ≡ true
 HasPlainPaths (PrintLibrary lib text) = Unit {0}
 HasPlainPaths (FindOrder development history check budget) = (is_plain development ≡ true) × (is_plain history ≡ true) × IfSome budget (λ n. n < 2 ^ 64)
 HasPlainPaths (MakeWhole short budget) = (is_plain short ≡ true) × IfSome budget (λ n. n < 2 ^ 64)
-HasPlainPaths (ExplorePlan development plan budget) = (is_plain development ≡ true) × (is_plain plan ≡ true) × IfSome budget (λ n. n < 2 ^ 64)
+HasPlainPaths (ExploreRuns development setting budget) = (is_plain development ≡ true) × IsSmall setting × IfSome budget (λ n. n < 2 ^ 64)
 
 -- it reads files
 abbrev pub ReadsFiles : Task → Type 0

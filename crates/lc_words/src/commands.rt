@@ -5,19 +5,8 @@ ghost use Rattle.clap.specs.declared.builder.command.Command.TheViews.{out-Comma
 ghost use Rattle.lc_words.specs.Commands.{option_rule, program_app};
 ghost use Rattle.lc_words.specs.Tables.{app_for, program_for, rule_for};
 
-use crate::limits::WORKER_LIMIT;
-use crate::texts::{
-    ABOUT, CARRY, CARRY_ANSWER, CERTIFICATE_FILE, CHECK, CHECK_ALL, CHECK_ANSWER, CHECK_PROGRESS,
-    COMPLETE, COMPLETE_ANSWER, COMPLETE_BUDGET, COMPLETE_PROGRESS, CONDITION_KIND,
-    CONDITION_NUMBER, CONDITION_POINT, CONDITIONS, CONDITIONS_ANSWER, DEVELOPMENT, DRAW,
-    DRAW_ANSWER, DRAW_AROUND, DRAW_HTML, DRAW_WIDTH, EXIT_STATUS, EXPLAIN, EXPLORE, EXPLORE_ANSWER,
-    EXPLORE_BUDGET, FORMULA, FORMULA_ANSWER, FORMULA_FILE, HINTS, JUDGE, JUDGE_ANSWER,
-    JUDGE_DEVELOPMENT, JUDGE_HISTORY, LIBRARY, LIBRARY_ANSWER, LIBRARY_CERTIFICATE, LIBRARY_HINTS,
-    NEW, NEW_ANSWER, NEW_DEVELOPMENT, NEW_HINTS, NEW_NAME, OBJECT, OLD, OLD_CERTIFICATE, ORDER,
-    ORDER_ANSWER, ORDER_BUDGET, ORDER_CHECK, ORDER_HISTORY, PLAN_FILE, PROGRESS, PROVE, PROVE_ALL,
-    PROVE_ANSWER, QUIET, RUN, RUN_ANSWER, RUN_SEED, RUN_SEEDS, RUN_TRACE, SHORT, SHOW, SHOW_ANSWER,
-    SHOW_LINES, VERSION, WORKERS,
-};
+use crate::limits::{SIZE_LIMIT, WORKER_LIMIT};
+use crate::texts::{ABOUT, CARRY, CARRY_ANSWER, CERTIFICATE_FILE, CHECK, CHECK_ALL, CHECK_ANSWER, CHECK_PROGRESS, COMPLETE, COMPLETE_ANSWER, COMPLETE_BUDGET, COMPLETE_PROGRESS, CONDITIONS, CONDITIONS_ANSWER, CONDITION_KIND, CONDITION_NUMBER, CONDITION_POINT, DEVELOPMENT, DRAW, DRAW_ANSWER, DRAW_AROUND, DRAW_HTML, DRAW_WIDTH, EXIT_STATUS, EXPLAIN, EXPLORE, EXPLORE_ANSWER, EXPLORE_BUDGET, EXPLORE_CALLS, EXPLORE_CLIENTS, EXPLORE_NUMBERS, FORMULA, FORMULA_ANSWER, FORMULA_FILE, HINTS, JUDGE, JUDGE_ANSWER, JUDGE_DEVELOPMENT, JUDGE_HISTORY, LIBRARY, LIBRARY_ANSWER, LIBRARY_CERTIFICATE, LIBRARY_HINTS, NEW, NEW_ANSWER, NEW_DEVELOPMENT, NEW_HINTS, NEW_NAME, OBJECT, OLD, OLD_CERTIFICATE, ORDER, ORDER_ANSWER, ORDER_BUDGET, ORDER_CHECK, ORDER_HISTORY, PLAN_FILE, PROGRESS, PROVE, PROVE_ALL, PROVE_ANSWER, QUIET, RUN, RUN_ANSWER, RUN_SEED, RUN_SEEDS, RUN_TRACE, SHORT, SHOW, SHOW_ANSWER, SHOW_LINES, VERSION, WORKERS};
 use clap::builder::ValueParser;
 use clap::{Arg, ArgAction, Command};
 use std::alloc::{AllocError, Global};
@@ -27,6 +16,8 @@ use std::alloc::{AllocError, Global};
 enum Argument {
     /// A value in its place, which has to be there.
     Place(&'static str, &'static str),
+    /// A value in its place, which may be left out.
+    Further(&'static str, &'static str),
     /// An option with a value, which is called so in the help.
     Value(&'static str, &'static str, &'static str),
     /// An option with a number from one to another.
@@ -219,7 +210,10 @@ static EXPLORE_COMMAND: Described = Described {
     answer: EXPLORE_ANSWER,
     arguments: &[
         Argument::Place("DEV", DEVELOPMENT),
-        Argument::Place("PLAN", PLAN_FILE),
+        Argument::Further("PLAN", PLAN_FILE),
+        Argument::Number("clients", EXPLORE_CLIENTS, 1, SIZE_LIMIT),
+        Argument::Number("calls", EXPLORE_CALLS, 1, SIZE_LIMIT),
+        Argument::Value("numbers", "A,B,..", EXPLORE_NUMBERS),
         Argument::Number("budget", EXPLORE_BUDGET, 0, u64::MAX),
         Argument::Flag("quiet", QUIET),
         Argument::Flag("explain", EXPLAIN),
@@ -248,6 +242,7 @@ fn arg_of<'a>(alloc: Global, argument: Argument) -> Arg<'a>
             .required(true)
             .action(ArgAction::Set)
             .help(help),
+        Argument::Further(name, help) => Arg::new(alloc, name).action(ArgAction::Set).help(help),
         Argument::Value(name, value, help) => value_option(alloc, name, value, help),
         Argument::Number(name, help, least, most) => value_option(
             alloc, name, "N", help,

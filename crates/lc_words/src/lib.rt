@@ -10,4 +10,4 @@ mod texts;
 
 pub use limits::WORKER_LIMIT;
 pub use reading::read_words;
-pub use request::{Asked, Chosen, LibraryText, Request, Shown, Turns};
+pub use request::{Asked, Chosen, LibraryText, Request, Scope, Shown, Turns};

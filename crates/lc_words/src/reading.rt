@@ -1,17 +1,18 @@
 //! What the words of a command line ask for.
-ghost use Rattle.std.specs.Prelude.{◌≡◌, ◌⊎◌, ℕ, List, codes, IfOk, IfErr, IsErrAnd, option_map};
+ghost use Rattle.std.specs.Prelude.{◌≡◌, ◌⊎◌, ℕ, List, codes, IfOk, IfErr, IsErrAnd, Some, None, option_map};
 ghost use Rattle.clap.specs.Words.{found_of, kind_of, rows_of, subcommand_of, subcommand_rows_of};
 ghost use Rattle.clap.specs.declared.error.kind.ErrorKind.TheVariants.{OutOfMemory};
 ghost use Rattle.lc_words.specs.Commands.{program_app};
-ghost use Rattle.lc_words.specs.Tasks.{CheckCertificate, CheckFormula, JudgeHistory, Task, chosen_task, path_in, task_of, texts_of};
-ghost use Rattle.lc_words.specs.Reading.{AreWrong, AskFor, AskForHelp, AsksForText, Reads, beginning_task, checking_task, drawing_task, exploring_task, is_explained, is_set, library_task, listed, listing_task, number_given, number_in, one_file_task, ordering_task, parted, proving_task, range_in, running_task, showing_task, task_in, shown_by, text_for, turns_by, two_file_task, carrying_task, checked, completing_task};
+ghost use Rattle.lc_words.specs.Tasks.{CheckCertificate, CheckFormula, JudgeHistory, Task, chosen_task, path_in, setting_of, task_of, texts_of};
+ghost use Rattle.lc_words.specs.Reading.{AreWrong, AskFor, AskForHelp, AsksForText, Reads, beginning_task, checking_task, drawing_task, exploring_task, is_explained, is_set, library_task, listed, listing_task, number_given, number_in, one_file_task, ordering_task, parted, proving_task, range_in, running_task, setting_by, showing_task, task_in, shown_by, text_for, turns_by, two_file_task, carrying_task, checked, completing_task};
 
 use crate::commands::program;
-use crate::request::{Asked, Chosen, LibraryText, Request, Shown, Turns};
+use crate::request::{Asked, Chosen, LibraryText, Request, Scope, Shown, Turns};
 use clap::error::ErrorKind;
 use clap::{ArgMatches, Error};
 use lc_base::Name;
 use lc_lib_texts::Lib;
+use lc_numbers::are_numbers;
 use std::alloc::Global;
 
 fn formula_request<'a>(command: &ArgMatches<'a>) -> Option<Request<'a>>
@@ -272,15 +273,60 @@ fn run_request<'a>(command: &ArgMatches<'a>) -> Option<Request<'a>>
     })
 }
 
+/// Any calls, with the numbers that a text says, if one is given and says some.
+fn size_by(clients: u64, calls: u64, numbers: Option<&str>) -> Option<Scope<'_>>
+    ensures { option_map setting_of result ≡ setting_by None (Some clients) (Some calls) (path_in numbers.entry) }
+{
+    match numbers {
+        None => Some(Scope::Size {
+            clients,
+            calls,
+            numbers,
+        }),
+        Some(text) => {
+            if are_numbers(text) {
+                Some(Scope::Size {
+                    clients,
+                    calls,
+                    numbers,
+                })
+            } else {
+                None
+            }
+        }
+    }
+}
+
+/// Which calls clients make: those of a plan, or any, by how many clients there are and how many calls each makes; these exclude each
+/// other.
+fn scope_by<'a>(
+    plan: Option<&'a str>,
+    clients: Option<u64>,
+    calls: Option<u64>,
+    numbers: Option<&'a str>,
+) -> Option<Scope<'a>>
+    ensures { option_map setting_of result ≡ setting_by (path_in plan.entry) clients calls (path_in numbers.entry) }
+{
+    match (plan, clients, calls, numbers) {
+        (Some(plan), None, None, None) => Some(Scope::Plan(plan)),
+        (None, Some(clients), Some(calls), numbers) => size_by(clients, calls, numbers),
+        _ => None,
+    }
+}
+
 fn explore_request<'a>(command: &ArgMatches<'a>) -> Option<Request<'a>>
     ensures { option_map task_of result ≡ exploring_task (rows_of (found_of command.now)) }
 {
     let development = command.get_str("DEV")?;
-    let plan = command.get_str("PLAN")?;
+    let plan = command.get_str("PLAN");
+    let clients = number_given(command, "clients");
+    let calls = number_given(command, "calls");
+    let numbers = command.get_str("numbers");
+    let scope = scope_by(plan, clients, calls, numbers)?;
     let budget = number_given(command, "budget");
     Some(Request::Explore {
         development,
-        plan,
+        scope,
         budget,
     })
 }
@@ -425,6 +471,28 @@ fn draw_fault(command: &ArgMatches<'_>) -> (ErrorKind, &'static str)
     }
 }
 
+/// Why the command `explore` asks for nothing.
+fn explore_fault(command: &ArgMatches<'_>) -> (ErrorKind, &'static str)
+    ensures { AsksForText result.0 → ⊥ }
+{
+    if command.get_str("PLAN").is_some() {
+        (
+            ErrorKind::ArgumentConflict,
+            "PLAN excludes `--clients`, `--calls` and `--numbers`",
+        )
+    } else if command.get_str("clients").is_some() && command.get_str("calls").is_some() {
+        (
+            ErrorKind::ValueValidation,
+            "A,B,.. are no numbers of 64 bits, with commas between them",
+        )
+    } else {
+        (
+            ErrorKind::MissingRequiredArgument,
+            "PLAN is missing, or `--clients` and `--calls`: which calls clients make",
+        )
+    }
+}
+
 /// Why words in which clap finds no fault ask for nothing.
 fn fault_in(matches: &ArgMatches<'_>) -> (ErrorKind, &'static str)
     ensures { AsksForText result.0 → ⊥ }
@@ -438,6 +506,7 @@ fn fault_in(matches: &ArgMatches<'_>) -> (ErrorKind, &'static str)
         Some(("library", command)) => library_fault(command),
         Some(("draw", command)) => draw_fault(command),
         Some(("run", command)) => run_fault(command),
+        Some(("explore", command)) => explore_fault(command),
         Some(("new", _)) => (
             ErrorKind::ValueValidation,
             "NAME is no name: a letter or `_`, then letters, digits, `_`, `-` and `.`, at most 64 of them",

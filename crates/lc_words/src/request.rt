@@ -45,6 +45,19 @@ pub enum Shown {
     Around(u64, u64),
 }
 
+/// Which calls clients make while a development is explored.
+#[derive(Clone, Copy)]
+pub enum Scope<'a> {
+    /// Those of the plan in the file at this path.
+    Plan(&'a str),
+    /// Any: so many clients, each so many calls, with the numbers that a text says, if one is given.
+    Size {
+        clients: u64,
+        calls: u64,
+        numbers: Option<&'a str>,
+    },
+}
+
 /// What the command line asks for.
 #[derive(Clone, Copy)]
 pub enum Request<'a> {
@@ -117,10 +130,10 @@ pub enum Request<'a> {
         budget: Option<u64>,
         progress: bool,
     },
-    /// Explore the development in a file by the plan in another, over `budget` worlds, if a number is given.
+    /// Explore the development in a file, whose clients make such calls, over `budget` worlds, if a number is given.
     Explore {
         development: &'a str,
-        plan: &'a str,
+        scope: Scope<'a>,
         budget: Option<u64>,
     },
     /// Print a development of this name to begin with.

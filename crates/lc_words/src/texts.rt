@@ -372,6 +372,12 @@ Examples:
 
 pub(crate) const EXPLORE: &str = "Looks at all runs of a development in a small setting";
 
+pub(crate) const EXPLORE_CLIENTS: &str = "In place of PLAN: N clients, which make any calls";
+
+pub(crate) const EXPLORE_CALLS: &str = "Each of them makes at most N calls";
+
+pub(crate) const EXPLORE_NUMBERS: &str = "The numbers of their calls (by default 0,1)";
+
 pub(crate) const EXPLORE_BUDGET: &str = "Meet at most N worlds (by default 1,000,000)";
 
 pub(crate) const EXPLORE_ANSWER: &str = "\

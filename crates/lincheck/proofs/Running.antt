@@ -1,5 +1,5 @@
 -- What a development's file, its certificate's and a plan's are answered, from the beginnings of them that are read.
-use Rattle.std.proofs.Common.{◌≡◌, ℕ, zero, suc, ◌+◌, ℤ, true, List, [], ◌∷◌, ◌++◌, codes, flat_map, length, Option, IfOk, Result, Ok, Err, Vec, refl, sym, ap, ap₂, subst, ◌∙◌, inl, inr, append-nil, append_assoc, arith}
+use Rattle.std.proofs.Common.{◌≡◌, ℕ, zero, suc, ◌+◌, ℤ, List, [], ◌∷◌, ◌++◌, codes, flat_map, length, Option, IfOk, Result, Ok, Err, Vec, refl, sym, ap, ap₂, subst, ◌∙◌, inl, inr, append-nil, append_assoc, arith}
 use Rattle.std.proofs.lemmas.List.{length-map}
 use Rattle.std.specs.Fmt.{decimal}
 use Rattle.std.specs.declared.alloc.Global.{Global}
@@ -22,7 +22,6 @@ use Rattle.lc_hist.specs.JsonWritten.{history_text}
 use Rattle.lc_history.specs.declared.event.Done.{Done}
 use Rattle.lc_outline.specs.Development.{Development}
 use Rattle.lc_outline_text.specs.Developments.{file_reading}
-use Rattle.lc_plan.specs.Fitting.{PlansFit, plan_fits}
 use Rattle.lc_plan.specs.Plans as S
 use Rattle.lc_plan.specs.Readings.{plan_reading}
 use Rattle.lc_plan.specs.View.{plan_of}
@@ -65,11 +64,6 @@ certificate_told D known bytes refusal text status read is told = read_so known 
 pub plan_opened : (D : Development) (known : Option (List ℕ)) (bytes : List ℕ) (plan : Plan) → OfFile known (λ file. bytes ≡ within_limit file) → IsAnswerTo plan_of (plan_reading D) bytes (Ok plan)
     → OfFile known (λ file. OpensPlan D file (Ok plan))
 plan_opened D known bytes plan read is = read_so known read (λ file read. said_of_whole (plan_reading D) file (plan_of plan) (subst (λ b. Says (plan_reading D) b (plan_of plan)) read is))
-
--- a plan that is read for a development is for it
-pub plan_fits_read : (D : Development) (bytes : List ℕ) (result : Result Plan Fault) → PlansFit → IsAnswerTo plan_of (plan_reading D) bytes result → IfOk result (λ plan. plan_fits D (plan_of plan) ≡ true)
-plan_fits_read D bytes (Ok plan) fit answer = fit D bytes (plan_of plan) answer
-plan_fits_read D bytes (Err fault) fit answer = tt
 
 pub plan_refused : (D : Development) (known : Option (List ℕ)) (bytes : List ℕ) (fault : Fault) (text : List ℕ) (status : ℕ) → OfFile known (λ file. bytes ≡ within_limit file)
     → IsAnswerTo plan_of (plan_reading D) bytes (Err fault) → ToldFault fault text status → OfFile known (λ file. RefusesPlan D file text status)

@@ -10,11 +10,11 @@ use Rattle.lc_outline_print.specs.Developments.{development_printed}
 use Rattle.lc_outline_text.specs.Developments.{file_reading}
 use Rattle.lincheck.specs.Carry.{AnswersCarry, AnswersWith, IsUnreadCarry}
 use Rattle.lincheck.specs.Check.{AnswersDevelopment, AnswersCheck}
-use Rattle.lc_words.specs.Tasks.{Task, CheckFormula, JudgeHistory, ShowDevelopment, ShowLines, ListConditions, ListChosen, ShowCondition, CheckByWorkers, CheckCertificate, ProveDevelopment, ProveWithHints, DrawHistory, BeginDevelopment, PrintLibrary, CarryCertificate, CarryWithHints, RunPlan, FindOrder, MakeWhole, ExplorePlan}
+use Rattle.lc_words.specs.Tasks.{Task, CheckFormula, JudgeHistory, ShowDevelopment, ShowLines, ListConditions, ListChosen, ShowCondition, CheckByWorkers, CheckCertificate, ProveDevelopment, ProveWithHints, DrawHistory, BeginDevelopment, PrintLibrary, CarryCertificate, CarryWithHints, RunPlan, FindOrder, MakeWhole, ExploreRuns}
 use Rattle.lincheck.specs.Complete.{AnswersComplete}
 use Rattle.lincheck.specs.Condition.{AnswersChosen, AnswersCondition, kind_of, point_of}
 use Rattle.lincheck.specs.Draw.{AnswersDraw}
-use Rattle.lincheck.specs.Explore.{AnswersExplore}
+use Rattle.lincheck.specs.Explore.{AnswersExplore, IsUnreadExplore}
 use Rattle.lincheck.specs.Formula.{AnswersFormula}
 use Rattle.lincheck.specs.Judge.{AnswersJudge}
 use Rattle.lincheck.specs.Library.{AnswersLibrary}
@@ -61,8 +61,7 @@ AnswersTask bytes_at (PrintLibrary lib asked) text status = AnswersLibrary lib a
 AnswersTask bytes_at (FindOrder development history check budget) text status =
     OfFile (bytes_at development) (λ file. AnswersOrder check file (bytes_at history) text status)
 AnswersTask bytes_at (MakeWhole short budget) text status = OfFile (bytes_at short) (λ file. AnswersComplete file text status)
-AnswersTask bytes_at (ExplorePlan development plan budget) text status =
-    OfFile (bytes_at development) (λ file. AnswersExplore budget file (bytes_at plan) text status)
+AnswersTask bytes_at (ExploreRuns development setting budget) text status = OfFile (bytes_at development) (λ file. AnswersExplore bytes_at budget setting file text status)
 
 -- A file that a task needs cannot be opened: the only one or the development; or the other, if the development is read
 abbrev pub IsUnread : (List ℕ → Type 0) → (List ℕ → Option (List ℕ)) → Task → Type 0
@@ -97,9 +96,7 @@ IsUnread CannotOpen bytes_at (FindOrder development history check budget) =
     CannotOpen development
     ⊎ ((file : List ℕ) × (spec : Specification) × (bytes_at development ≡ Some file) × Says first_reading file spec × CannotOpen history)
 IsUnread CannotOpen bytes_at (MakeWhole short budget) = CannotOpen short
-IsUnread CannotOpen bytes_at (ExplorePlan development plan budget) =
-    CannotOpen development
-    ⊎ ((file : List ℕ) × (D : Development) × (bytes_at development ≡ Some file) × Says file_reading file D × CannotOpen plan)
+IsUnread CannotOpen bytes_at (ExploreRuns development setting budget) = IsUnreadExplore CannotOpen bytes_at development setting
 
 -- The program ends with a task: with a fault of reading, or out of memory, and nothing is printed; or with an answer for which
 -- this holds, which is appended to standard output, unless there is a fault of writing, or memory runs out while

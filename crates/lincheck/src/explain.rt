@@ -16,7 +16,7 @@ use lc_outline::Development;
 use lc_outline_text::development_of;
 use lc_seq::TextSpec;
 use lc_spec_text::spec_of;
-use lc_words::{Asked, Chosen, Request};
+use lc_words::{Asked, Chosen, Request, Scope};
 use std::alloc::Global;
 use std::io::Write;
 
@@ -71,7 +71,10 @@ fn second_file(request: Request<'_>) -> Option<NamedFile<'_>> {
         | Request::Run { certificate, .. }
         | Request::Carry { certificate, .. } => named(certificate, FileKind::Certificate),
         Request::Prove { hints, .. } => named(hints?, FileKind::Hints),
-        Request::Explore { plan, .. } => named(plan, FileKind::Plan),
+        Request::Explore {
+            scope: Scope::Plan(plan),
+            ..
+        } => named(plan, FileKind::Plan),
         _ => None,
     }
 }

@@ -1,11 +1,11 @@
 //! The command `explore`.
-ghost use Rattle.std.specs.Prelude.{◌≡◌, ℕ, true, List, IfOk, IsErr};
+ghost use Rattle.std.specs.Prelude.{◌≡◌, ℕ, List, IfOk, IsErr};
 ghost use Rattle.lc_outline.specs.DevelopmentView.{development_view};
-ghost use Rattle.lc_plan.specs.Fitting.{plan_fits};
-ghost use Rattle.lc_plan.specs.View.{plan_of};
-ghost use Rattle.lc_words.specs.Tasks.{ExplorePlan};
+ghost use Rattle.lc_tour.specs.Planned.{any_scripts};
+ghost use Rattle.lc_words.specs.Tasks.{ExploreRuns, path_in, setting_of};
+ghost use Rattle.lc_worlds.specs.Seats.{scripts_view};
 ghost use Rattle.lincheck.specs.Execution.{AnswersTask, IsUnread};
-ghost use Rattle.lincheck.specs.Explore.{AnswersExplored, ExploresSo, allowed, status_for};
+ghost use Rattle.lincheck.specs.Explore.{AnswersExplored, ExploresAs, ExploresSo, IsUnreadSetting, allowed, call_numbers, status_for};
 ghost use Rattle.lincheck.specs.Reading.{OfFile};
 
 use crate::answer::{Answer, Failure, REFUSED, SUCCESS};
@@ -14,9 +14,11 @@ use crate::files::Files;
 use crate::run::open_plan;
 use lc_base::OutOfMemory;
 use lc_findings::find_faults;
+use lc_numbers::numbers_in;
 use lc_outline::Development;
-use lc_plan::Plan;
-use lc_tour::scripts_of;
+use lc_seq::TextCall;
+use lc_tour::{any_scripts, scripts_of};
+use lc_words::Scope;
 use std::alloc::Global;
 
 /// How many worlds are met at most, if no number is given. `allowed` in `specs/Explore.antt` has the same.
@@ -51,25 +53,57 @@ fn status_for(is_right: bool) -> u8
     if is_right { SUCCESS } else { REFUSED }
 }
 
-/// The answer of exploring a development by a plan, over so many worlds, if a number is given.
+/// The numbers of calls: 0 and 1, or those that a text says.
+fn call_numbers(alloc: Global, text: Option<&str>) -> Result<Vec<i64>, OutOfMemory>
+    ensures { IfOk result (λ numbers. numbers.items ≡ call_numbers (path_in text.entry)) }
+{
+    match text {
+        None => {
+            let mut numbers = Vec::new(alloc);
+            numbers.push(0)?;
+            numbers.push(1)?;
+            Ok(numbers)
+        }
+        Some(text) => match numbers_in(alloc, text)? {
+            Some(numbers) => Ok(numbers),
+            None => Ok(Vec::new(alloc)),
+        },
+    }
+}
+
+/// The answer of exploring a development whose clients make the calls of scripts, over so many worlds, if a number is given.
 fn explore_by(
     alloc: Global,
     development: &Development,
-    plan: &Plan,
+    scripts: &[Vec<Vec<TextCall>>],
     budget: Option<u64>,
 ) -> Result<Answer, OutOfMemory>
-    requires { plan_fits (development_view development.now) (plan_of plan.now) ≡ true }
-    ensures { IfOk result (λ answer. ExploresSo budget (development_view development.now) (plan_of plan.now) answer.text.items answer.status) }
+    ensures { IfOk result (λ answer. ExploresSo budget (development_view development.now) (scripts_view scripts.now) answer.text.items answer.status) }
 {
-    let scripts = scripts_of(alloc, plan)?;
     let numbers = numbers_tried(alloc)?;
-    let found = find_faults(alloc, development, &scripts, &numbers, allowed(budget))?;
+    let found = find_faults(alloc, development, scripts, &numbers, allowed(budget))?;
     let status = status_for(found.is_right);
     Ok(Answer {
         text: found.text,
         status,
         why: None,
     })
+}
+
+/// The answer of exploring a development whose clients make any calls.
+fn explore_any(
+    alloc: Global,
+    development: &Development,
+    clients: u64,
+    calls: u64,
+    text: Option<&str>,
+    budget: Option<u64>,
+) -> Result<Answer, OutOfMemory>
+    ensures { IfOk result (λ answer. ExploresSo budget (development_view development.now) (any_scripts (development_view development.now) clients calls (call_numbers (path_in text.entry))) answer.text.items answer.status) }
+{
+    let numbers = call_numbers(alloc, text)?;
+    let scripts = any_scripts(alloc, development, clients, calls, &numbers)?;
+    explore_by(alloc, development, &scripts, budget)
 }
 
 /// The answer to the plan at a path, of a development.
@@ -84,25 +118,53 @@ fn answer_explored<'a, F: Files>(
     ensures answers { IfOk result (λ answer. OfFile (F.bytes_at files.old path.now) (λ file. AnswersExplored budget (development_view development.now) file answer.text.items answer.status)) }
 {
     match open_plan(alloc, files, development, path)? {
-        Ok(plan) => Ok(explore_by(alloc, development, &plan, budget)?),
+        Ok(plan) => {
+            let scripts = scripts_of(alloc, &plan)?;
+            let answer = explore_by(alloc, development, &scripts, budget)?;
+            Ok(answer)
+        }
         Err(answer) => Ok(answer),
     }
 }
 
-/// The answer of the command `explore` to a development and a plan at two paths: how many worlds were met, or a shortest run to a fault. If
-/// the development is refused, the plan is not opened.
+/// The answer of exploring a development whose clients make such calls. A plan is opened where there is one.
+fn answer_in<'a, F: Files>(
+    alloc: Global,
+    files: &mut F,
+    development: &Development,
+    scope: Scope<'a>,
+    budget: Option<u64>,
+) -> Result<Answer, Failure<'a>>
+    ensures unread { IsUnreadSetting (F.CannotOpen files.old) (setting_of scope) → IsErr result }
+    ensures answers { IfOk result (λ answer. ExploresAs (F.bytes_at files.old) budget (development_view development.now) (setting_of scope) answer.text.items answer.status) }
+{
+    match scope {
+        Scope::Plan(path) => answer_explored(alloc, files, development, path, budget),
+        Scope::Size {
+            clients,
+            calls,
+            numbers,
+        } => {
+            let answer = explore_any(alloc, development, clients, calls, numbers, budget)?;
+            Ok(answer)
+        }
+    }
+}
+
+/// The answer of the command `explore` to a development at a path, whose clients make such calls: how many worlds were met, or a shortest run to a
+/// step that is wrong. If the development is refused, no plan is opened.
 pub fn answer_explore<'a, F: Files>(
     alloc: Global,
     files: &mut F,
     development: &'a str,
-    plan: &'a str,
+    scope: Scope<'a>,
     budget: Option<u64>,
 ) -> Result<Answer, Failure<'a>>
-    ensures unread { IsUnread (F.CannotOpen files.old) (F.bytes_at files.old) (ExplorePlan development.now plan.now budget) → IsErr result }
-    ensures answers { IfOk result (λ answer. AnswersTask (F.bytes_at files.old) (ExplorePlan development.now plan.now budget) answer.text.items answer.status) }
+    ensures unread { IsUnread (F.CannotOpen files.old) (F.bytes_at files.old) (ExploreRuns development.now (setting_of scope) budget) → IsErr result }
+    ensures answers { IfOk result (λ answer. AnswersTask (F.bytes_at files.old) (ExploreRuns development.now (setting_of scope) budget) answer.text.items answer.status) }
 {
     match open_development(alloc, files, development)? {
-        Ok(development) => answer_explored(alloc, files, &development, plan, budget),
+        Ok(development) => answer_in(alloc, files, &development, scope, budget),
         Err(answer) => Ok(answer),
     }
 }

@@ -162,10 +162,10 @@ fn carry_out<'a, R: Threads + Wait + Sync, F: Files, O: Write, E: Write>(
         }
         Request::Explore {
             development,
-            plan,
+            scope,
             budget,
         } => {
-            let answer = answer_explore(alloc, files, development, plan, budget)?;
+            let answer = answer_explore(alloc, files, development, scope, budget)?;
             print_told(out, why, &answer)
         }
         Request::New(name) => print_told(out, why, &answer_new(alloc, name)?),

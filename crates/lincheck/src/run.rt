@@ -1,12 +1,11 @@
 //! The command `run`.
-ghost use Rattle.std.specs.Prelude.{◌≡◌, ◌++◌, ◌-◌, ℕ, List, Some, true, flat_map, IfOk, IsErr, OnOk};
+ghost use Rattle.std.specs.Prelude.{◌≡◌, ◌++◌, ◌-◌, ℕ, List, Some, flat_map, IfOk, IsErr, OnOk};
 ghost use Rattle.std.specs.Arc.{arc_value};
 ghost use Rattle.lc_sexp.specs.Pieces.{WasFed};
 ghost use Rattle.lc_reading.specs.Files.{IsAnswerTo};
 ghost use Rattle.lc_check.specs.VerdictView.{development_in};
 ghost use Rattle.lc_crew.specs.Ran.{IsRunOf};
 ghost use Rattle.lc_outline.specs.DevelopmentView.{development_view};
-ghost use Rattle.lc_plan.specs.Fitting.{plan_fits};
 ghost use Rattle.lc_plan.specs.Readings.{plan_reading};
 ghost use Rattle.lc_plan.specs.View.{plan_of};
 ghost use Rattle.lc_run.specs.LabelView.{labels_of};
@@ -26,7 +25,6 @@ use lc_check::{Accepted, Alone, CertificateSession, Verdict};
 use lc_crew::{Ended, Halt, Ran, Stop, run, run_drawn};
 use lc_hist::history_to_json;
 use lc_outline::Development;
-use lc_plan::laws::plans_fit_their_development;
 use lc_plan::{Plan, plan_in};
 use lc_sexp::FormsReader;
 use lc_trace::{TraceFault, trace};
@@ -63,10 +61,8 @@ fn accept_at<'a, F: Files>(
 /// The plan for a development in the file that a reader was fed; else its first refusal.
 fn plan_fed(alloc: Global, development: &Development, reader: FormsReader) -> Result<Plan, Fault>
     requires { (bytes : List ℕ) × WasFed reader bytes }
-    ensures answers { (bytes : List ℕ) → WasFed reader bytes → IsAnswerTo plan_of (plan_reading (development_view development.now)) bytes result }
-    ensures fits { IfOk result (λ plan. plan_fits (development_view development.now) (plan_of plan) ≡ true) }
+    ensures { (bytes : List ℕ) → WasFed reader bytes → IsAnswerTo plan_of (plan_reading (development_view development.now)) bytes result }
 {
-    plans_fit_their_development();
     let forms = reader.finish()?;
     plan_in(alloc, development, forms)
 }
@@ -80,7 +76,6 @@ pub(crate) fn open_plan<'a, F: Files>(
 ) -> Result<Result<Plan, Answer>, Failure<'a>>
     ensures unread { F.CannotOpen files.old path.now → IsErr result }
     ensures opens { IfOk result (λ opened. OfFile (F.bytes_at files.old path.now) (λ file. OpensPlan (development_view development.now) file opened)) }
-    ensures fits { IfOk result (λ opened. IfOk opened (λ plan. plan_fits (development_view development.now) (plan_of plan) ≡ true)) }
 {
     let reader = feed_forms(alloc, files, path)?;
     match plan_fed(alloc, development, reader) {

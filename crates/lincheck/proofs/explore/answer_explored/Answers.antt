@@ -11,9 +11,9 @@ pub returns-in-Ok-clause-answers : goal.returns-in-Ok-clause-answers
 returns-in-Ok-clause-answers g c =
     let D = development_view c.args.development.now in
     let known = g.F.Files.bytes_at c.args.files.now c.args.path.now in
-    let answer = c.in_ok-explore_by-in-Ok.field-0 in
-    explored_answered c.args.budget D known c.in-Ok.plan answer.text.items answer.status
-    (subst (λ (o : Result Plan Answer). OfFile known (λ file. OpensPlan D file o)) c.in-Ok.is c.in_ok-plan.ensures.opens) c.in_ok-explore_by-in-Ok.ensures
+    let answer = c.in_ok-answer-in-Ok.answer in
+    explored_answered c.args.budget D known c.in-Ok.plan _ answer.text.items answer.status
+    (subst (λ (o : Result Plan Answer). OfFile known (λ file. OpensPlan D file o)) c.in-Ok.is c.in_ok-plan.ensures.opens) c.in_ok-scripts-in-Ok.ensures c.in_ok-answer-in-Ok.ensures
 
 pub returns-clause-answers : goal.returns-clause-answers
 returns-clause-answers g c =

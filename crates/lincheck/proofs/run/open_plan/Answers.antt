@@ -10,7 +10,7 @@ plan_fed-requires g c =
 pub returns-in-Ok-clause-opens : goal.returns-in-Ok-clause-opens
 returns-in-Ok-clause-opens g c =
     let fed = c.in_ok-reader.ensures.fed in
-    plan_opened (development_view c.args.development.now) (g.F.Files.bytes_at c.args.files.now c.args.path.now) fed.0 c.in-Ok.plan fed.2 (c.in-Ok.ensures.answers fed.0 fed.1)
+    plan_opened (development_view c.args.development.now) (g.F.Files.bytes_at c.args.files.now c.args.path.now) fed.0 c.in-Ok.plan fed.2 (c.in-Ok.ensures fed.0 fed.1)
 
 pub returns-in_ok-told_fault-in-Err-clause-opens : goal.returns-in_ok-told_fault-in-Err-clause-opens
 returns-in_ok-told_fault-in-Err-clause-opens g c =

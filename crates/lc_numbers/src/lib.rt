@@ -1,0 +1,6 @@
+//! Stub.
+#![tactic(auto)]
+
+mod numbers;
+
+pub use numbers::are_numbers;
