@@ -108,6 +108,19 @@ both_passed t u = ((((t && true) && true) && true) && ((u && true) && true)) && 
 abbrev both_passed_too : Bool → Bool → Bool
 both_passed_too t u = ((((t && true) && true) && ((((u && true) && true) && true) && true)) && true) && true
 
+-- and those of a size, with a text behind them, and with the number of a budget
+abbrev sized : Bool → Bool → Bool
+sized t u = ((((t && true) && true) && (((u && true) && true) && true)) && true) && true
+
+abbrev sized_within : Bool → Bool → Bool → Bool
+sized_within t u v = ((((t && true) && true) && (((u && true) && true) && true)) && ((v && true) && true)) && true
+
+abbrev sized_within_too : Bool → Bool → Bool → Bool
+sized_within_too t u v = ((((t && true) && true) && (((u && true) && true) && ((((v && true) && true) && true) && true))) && true) && true
+
+all_pass : (f : Bool → Bool → Bool → Bool) (t u v : Bool) → t ≡ true → u ≡ true → v ≡ true → f t u v ≡ f true true true
+all_pass f t u v a b c = (λ i. f (a i) (b i) (c i))
+
 -- ---- the words of a task
 
 abbrev explained_words : List ℕ → Task → List Text
@@ -195,19 +208,25 @@ words_ask_both name (ExploreRuns development (OfSize clients calls None) None) i
     let read = ap₂ (λ (n m : Option ℕ). option_map (λ s. ExploreRuns development s None) (setting_by None n m None)) (number_back clients (workers_are_few clients is.1.1)) (number_back calls (workers_are_few calls is.1.3)) in
     asked_both name (codes "explore") (plain development is.0 ∷ sizes clients calls is.1.1 is.1.3) _ refl (ap₂ both_passed pass pass_too, read) (ap₂ both_passed_too pass pass_too, read) refl
 words_ask_both name (ExploreRuns development (OfSize clients calls None) (Some b)) is =
+    let pass = workers_pass clients is.1.0 is.1.1 in
+    let pass_too = workers_pass calls is.1.2 is.1.3 in
+    let pass_b = number_passes b is.2 in
     let read = ap₂ (λ (n m : Option ℕ). option_map (λ s. ExploreRuns development s (number_in (decimal b))) (setting_by None n m None)) (number_back clients (workers_are_few clients is.1.1)) (number_back calls (workers_are_few calls is.1.3))
     ∙ ap (λ (x : Option ℕ). Some (ExploreRuns development (OfSize clients calls None) x)) (number_back b is.2) in
-    asked_both name (codes "explore") (plain development is.0 ∷ sizes clients calls is.1.1 is.1.3 ++ within b is.2) _ refl (?, read) (?, read) refl
+    asked_both name (codes "explore") (plain development is.0 ∷ sizes clients calls is.1.1 is.1.3 ++ within b is.2) _ refl (all_pass sized_within _ _ _ pass pass_too pass_b, read) (all_pass sized_within_too _ _ _ pass pass_too pass_b, read) refl
 words_ask_both name (ExploreRuns development (OfSize clients calls (Some text)) None) is =
     let pass = workers_pass clients is.1.0 is.1.1 in
     let pass_too = workers_pass calls is.1.2 is.1.3 in
     let read = ap₂ (λ (n m : Option ℕ). option_map (λ s. ExploreRuns development s None) (setting_by None n m (Some text))) (number_back clients (workers_are_few clients is.1.1)) (number_back calls (workers_are_few calls is.1.3))
     ∙ ap (λ t. option_map (λ s. ExploreRuns development s None) (if t then Some (OfSize clients calls (Some text)) else None)) is.1.5 in
-    asked_both name (codes "explore") (plain development is.0 ∷ sizes clients calls is.1.1 is.1.3 ++ known (codes "--numbers") ∷ plain text is.1.4 ∷ []) _ refl (?, read) (?, read) refl
+    asked_both name (codes "explore") (plain development is.0 ∷ sizes clients calls is.1.1 is.1.3 ++ known (codes "--numbers") ∷ plain text is.1.4 ∷ []) _ refl (ap₂ sized pass pass_too, read) (ap₂ sized pass pass_too, read) refl
 words_ask_both name (ExploreRuns development (OfSize clients calls (Some text)) (Some b)) is =
+    let pass = workers_pass clients is.1.0 is.1.1 in
+    let pass_too = workers_pass calls is.1.2 is.1.3 in
+    let pass_b = number_passes b is.2 in
     let read = ap₂ (λ (n m : Option ℕ). option_map (λ s. ExploreRuns development s (number_in (decimal b))) (setting_by None n m (Some text))) (number_back clients (workers_are_few clients is.1.1)) (number_back calls (workers_are_few calls is.1.3))
     ∙ ap₂ (λ t (x : Option ℕ). option_map (λ s. ExploreRuns development s x) (if t then Some (OfSize clients calls (Some text)) else None)) is.1.5 (number_back b is.2) in
-    asked_both name (codes "explore") (plain development is.0 ∷ sizes clients calls is.1.1 is.1.3 ++ known (codes "--numbers") ∷ plain text is.1.4 ∷ within b is.2) _ refl (?, read) (?, read) refl
+    asked_both name (codes "explore") (plain development is.0 ∷ sizes clients calls is.1.1 is.1.3 ++ known (codes "--numbers") ∷ plain text is.1.4 ∷ within b is.2) _ refl (all_pass sized_within _ _ _ pass pass_too pass_b, read) (all_pass sized_within_too _ _ _ pass pass_too pass_b, read) refl
 
 pub words_ask : (name : List ℕ) (task : Task) → HasPlainPaths task → AskFor (words_for name task) task
 words_ask name task is = (words_ask_both name task is).0

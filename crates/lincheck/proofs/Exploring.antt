@@ -1,5 +1,7 @@
 -- What a development's file and a plan's are answered, by which it is explored.
-use Rattle.std.proofs.Common.{◌≡◌, ℕ, ◌⊎◌, List, Option, Some, None, IfOk, IsErr, Result, Ok, Err, subst, sym, inl, inr}
+use Rattle.std.proofs.Common.{◌≡◌, ℕ, ℤ, ◌⊎◌, Bool, false, codes, List, [], ◌∷◌, Option, IfOk, Result, Ok, Err, refl, ap, ◌∙◌, subst, inl, inr}
+use Rattle.lc_base.specs.Line.{line_of}
+use Rattle.lc_findings.specs.Findings.{Finds}
 use Rattle.lc_outline.specs.Development.{Development}
 use Rattle.lc_outline_text.specs.Developments.{file_reading}
 use Rattle.lc_plan.specs.View.{plan_of}
@@ -10,12 +12,21 @@ use Rattle.lc_stages.specs.Scripts.{Scripts}
 use Rattle.lc_tour.specs.Planned.{scripts_in}
 use Rattle.lc_words.specs.Tasks.{Setting, ByPlan, OfSize}
 use Rattle.lincheck.specs.Check.{TellsRefusal}
-use Rattle.lincheck.specs.Explore.{AnswersExplore, AnswersExplored, ExploresAs, ExploresSo, IsUnreadExplore, IsUnreadSetting}
+use Rattle.lincheck.specs.Explore.{AnswersExplore, AnswersExplored, ExploresAs, ExploresSo, IsUnreadExplore, IsUnreadSetting, allowed, status_for}
 use Rattle.lincheck.specs.Reading.{OfFile}
 use Rattle.lincheck.specs.Run.{OpensPlan}
 use Rattle.lincheck.specs.declared.answer.Answer.{Answer}
 use Rattle.lincheck.specs.declared.answer.Failure.{Failure}
 use Rattle.lincheck.proofs.Read.{read_known, read_so}
+
+-- there are more worlds than were allowed
+pub budget_told : (budget : Option ℕ) (D : Development) (scripts : Scripts) (text : List ℕ) (n : ℕ) → text ≡ line_of (codes "budget") (n ∷ []) → n ≡ allowed budget → ExploresSo budget D scripts text 1
+budget_told budget D scripts text n is given = ([], false, inr (inr (inr (is ∙ ap (λ m. line_of (codes "budget") (m ∷ [])) given, refl))), refl)
+
+-- exploring finds something
+pub found_told : (budget : Option ℕ) (D : Development) (scripts : Scripts) (tried : List ℤ) (text : List ℕ) (right : Bool) (n status : ℕ) → Finds D scripts tried n text right → n ≡ allowed budget
+    → status ≡ status_for right → ExploresSo budget D scripts text status
+found_told budget D scripts tried text right n status finds given is = (tried, right, subst (λ m. Finds D scripts tried m text right) given finds, is)
 
 -- a plan that is read
 pub explored_answered : (budget : Option ℕ) (D : Development) (known : Option (List ℕ)) (plan : Plan) (scripts : Scripts) (text : List ℕ) (status : ℕ) → OfFile known (λ file. OpensPlan D file (Ok plan))

@@ -8,7 +8,8 @@ use Rattle.lc_plan.specs.Plans.{Plan}
 use Rattle.lc_plan.specs.Readings.{plan_reading}
 use Rattle.lc_reading.specs.Files.{Says}
 use Rattle.lc_stages.specs.Scripts.{Scripts}
-use Rattle.lc_tour.specs.Planned.{any_scripts, scripts_in}
+use Rattle.lc_tour.specs.AnyCalls.{any_scripts}
+use Rattle.lc_tour.specs.Planned.{scripts_in}
 use Rattle.lc_words.specs.Tasks.{Setting, ByPlan, OfSize}
 use Rattle.lincheck.specs.Check.{TellsRefusal}
 use Rattle.lincheck.specs.Reading.{OfFile}
@@ -44,7 +45,7 @@ AnswersExplored budget D file text status = RefusesPlan D file text status ⊎ (
 -- a development is explored whose clients make such calls
 abbrev pub ExploresAs : (List ℕ → Option (List ℕ)) → Option ℕ → Development → Setting → List ℕ → ℕ → Type 0
 ExploresAs bytes_at budget D (ByPlan plan) text status = OfFile (bytes_at plan) (λ file. AnswersExplored budget D file text status)
-ExploresAs bytes_at budget D (OfSize clients calls numbers) text status = ExploresSo budget D (any_scripts D clients calls (call_numbers numbers)) text status
+ExploresAs bytes_at budget D (OfSize clients calls numbers) text status = ExploresSo budget D (any_scripts D.object (call_numbers numbers) clients calls) text status
 
 -- The answer to a development's file: its refusal, whatever a plan's file has; or what exploring it finds
 abbrev pub AnswersExplore : (List ℕ → Option (List ℕ)) → Option ℕ → Setting → List ℕ → List ℕ → ℕ → Type 0

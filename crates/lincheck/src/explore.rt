@@ -1,7 +1,9 @@
 //! The command `explore`.
 ghost use Rattle.std.specs.Prelude.{◌≡◌, ℕ, List, IfOk, IsErr};
+ghost use Rattle.lc_outline.specs.Development.{Development};
 ghost use Rattle.lc_outline.specs.DevelopmentView.{development_view};
-ghost use Rattle.lc_tour.specs.Planned.{any_scripts};
+ghost use Rattle.lc_stages.specs.Scripts.{Scripts};
+ghost use Rattle.lc_tour.specs.AnyCalls.{any_scripts};
 ghost use Rattle.lc_words.specs.Tasks.{ExploreRuns, path_in, setting_of};
 ghost use Rattle.lc_worlds.specs.Seats.{scripts_view};
 ghost use Rattle.lincheck.specs.Execution.{AnswersTask, IsUnread};
@@ -12,7 +14,7 @@ use crate::answer::{Answer, Failure, REFUSED, SUCCESS};
 use crate::check::open_development;
 use crate::files::Files;
 use crate::run::open_plan;
-use lc_base::OutOfMemory;
+use lc_base::{OutOfMemory, write_line};
 use lc_findings::find_faults;
 use lc_numbers::numbers_in;
 use lc_outline::Development;
@@ -90,6 +92,18 @@ fn explore_by(
     })
 }
 
+/// The answer that there are more worlds than were allowed, or more clients.
+fn told_budget(alloc: Global, budget: Option<u64>) -> Result<Answer, OutOfMemory>
+    ensures { (D : Development) (scripts : Scripts) → IfOk result (λ answer. ExploresSo budget D scripts answer.text.items answer.status) }
+{
+    let text = write_line(alloc, "budget", &[allowed(budget)])?;
+    Ok(Answer {
+        text,
+        status: REFUSED,
+        why: None,
+    })
+}
+
 /// The answer of exploring a development whose clients make any calls.
 fn explore_any(
     alloc: Global,
@@ -99,11 +113,16 @@ fn explore_any(
     text: Option<&str>,
     budget: Option<u64>,
 ) -> Result<Answer, OutOfMemory>
-    ensures { IfOk result (λ answer. ExploresSo budget (development_view development.now) (any_scripts (development_view development.now) clients calls (call_numbers (path_in text.entry))) answer.text.items answer.status) }
+    ensures { IfOk result (λ answer. ExploresSo budget (development_view development.now) (any_scripts (development_view development.now).object (call_numbers (path_in text.entry)) clients calls) answer.text.items answer.status) }
 {
+    let Ok(few) = u32::try_from(clients) else {
+        return told_budget(alloc, budget);
+    };
     let numbers = call_numbers(alloc, text)?;
-    let scripts = any_scripts(alloc, development, clients, calls, &numbers)?;
-    explore_by(alloc, development, &scripts, budget)
+    let object = &development.parts().object;
+    let scripts = any_scripts(alloc, object, &numbers, few, calls as usize)?;
+    let answer = explore_by(alloc, development, &scripts, budget)?;
+    Ok(answer)
 }
 
 /// The answer to the plan at a path, of a development.

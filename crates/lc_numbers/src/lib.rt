@@ -1,6 +1,0 @@
-//! Stub.
-#![tactic(auto)]
-
-mod numbers;
-
-pub use numbers::are_numbers;
