@@ -3,7 +3,7 @@ use Rattle.std.proofs.lemmas.Iterator.Search.{all_from_yields_List}
 use Rattle.std.specs.Prelude.{is_some}
 use Rattle.lc_numbers.specs.Numbers.{parts, whole_in}
 use Rattle.lc_numbers.proofs.Wholes.{each_says, parts_yielded}
-use Rattle.lc_numbers.proofs.are_numbers.Goals as goal
+use Rattle.lc_numbers.proofs.numbers.are_numbers.Goals as goal
 
 pub returns : goal.returns
 returns c =

@@ -3,7 +3,7 @@ use Rattle.std.proofs.lemmas.List.{map_push}
 use Rattle.std.proofs.lemmas.Iterator.Consumers.{YieldsList-at, YieldsList-end, YieldsList-turn}
 use Rattle.lc_numbers.specs.Numbers.{all_wholes_in, parts, whole_in}
 use Rattle.lc_numbers.proofs.Wholes.{parts_yielded, wholes-none, wholes-push}
-use Rattle.lc_numbers.proofs.numbers_in.Goals as goal
+use Rattle.lc_numbers.proofs.numbers.numbers_in.Goals as goal
 
 pub returns-in_default : goal.returns-in_default
 returns-in_default c =
