@@ -383,8 +383,9 @@ pub(crate) const EXPLORE_BUDGET: &str = "Meet at most N worlds (by default 1,000
 pub(crate) const EXPLORE_ANSWER: &str = "\
 Reads DEV as `show` does, and then PLAN as `run` does; no certificate is needed. Goes through all worlds that the clients reach by the calls of
 PLAN, whatever the schedule: each client makes its calls one after another, whichever phase they are in, and a call takes as many turns as it
-likes. In each world the invariant and what is asserted of each client are looked at, and in each step the marks. Prints one line:
-  explored COUNT    nothing is wrong: each history by PLAN is linearizable; there are so many worlds
+likes. In place of PLAN, --clients N and --calls M say that each of N clients makes at most M calls, any operation with any of the
+numbers A, B, .. In each world the invariant and what is asserted of each client are looked at, and in each step the marks. Prints one line:
+  explored COUNT    nothing is wrong: each history by these calls is linearizable; there are so many worlds
   fails K           a step is wrong, so no certificate of DEV is accepted; condition K is the first that fails there, if one is seen to
   overflow          a number of a run leaves 64 bits
   budget COUNT      there are more worlds than these
@@ -393,9 +394,11 @@ order of its marks, as `draw` reads it. The last step is left out if a mark of i
 Quantifiers are tried at the numbers from -1 to 8, and at all of a range that the formula gives. Else it prints one line:
   refused CODE ..  DEV is refused as by `show`, or PLAN as by `run`
 
-Example:
-  lincheck explore examples/counter.lc examples/small.plan
-      prints `explored COUNT`";
+Examples:
+  lincheck explore examples/counter.lc --clients 2 --calls 2
+      prints `explored 930`
+  lincheck explore examples/counter.lc examples/pair.plan
+      prints how many worlds two clients reach that add and read";
 
 pub(crate) const LIBRARY: &str = "Prints an object of the library";
 
