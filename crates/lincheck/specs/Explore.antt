@@ -36,7 +36,8 @@ status_for false = 1
 
 -- what exploring a development finds whose clients make the calls of scripts
 abbrev pub ExploresSo : Option ℕ → Development → Scripts → List ℕ → ℕ → Type 0
-ExploresSo budget D scripts text status = (tried : List ℤ) × (right : Bool) × Finds D scripts tried (allowed budget) text right × (status ≡ status_for right)
+ExploresSo budget D scripts text status =
+    (tried : List ℤ) × (right : Bool) × (found : Option ℕ) × Finds D scripts tried (allowed budget) text right found × (status ≡ status_for right)
 
 -- the file of the plan is refused; or the development is explored by it
 abbrev pub AnswersExplored : Option ℕ → Development → List ℕ → List ℕ → ℕ → Type 0
