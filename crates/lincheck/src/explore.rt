@@ -122,14 +122,14 @@ fn explore_any(
     text: Option<&str>,
     budget: Option<u64>,
 ) -> Result<Answer, OutOfMemory>
-    ensures { IfOk result (λ answer. ExploresSo budget (development_view development.now) (any_scripts (development_view development.now).object (call_numbers (path_in text.entry)) clients calls) answer.text.items answer.status) }
+    ensures { IfOk result (λ answer. ExploresSo budget (development_view development.now) (any_scripts (development_view development.now).object clients calls (call_numbers (path_in text.entry))) answer.text.items answer.status) }
 {
     let Ok(few) = u32::try_from(clients) else {
         return told_budget(alloc, budget);
     };
     let numbers = call_numbers(alloc, text)?;
     let object = &development.parts().object;
-    let scripts = any_scripts(alloc, object, &numbers, few, calls as usize)?;
+    let scripts = any_scripts(alloc, object, few, calls as usize, &numbers)?;
     let answer = explore_by(alloc, development, &scripts, budget)?;
     Ok(answer)
 }
