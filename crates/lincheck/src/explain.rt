@@ -35,10 +35,6 @@ const FAILING: &str =
     "lincheck: this condition fails where the run leads, with the numbers that its clients have there; so no certificate is accepted: the \
 object, a mark, an assertion, the invariant or an action has to be changed\n";
 
-/// What is said if no proof of a condition was found.
-const TO_EXPLORE: &str =
-    "lincheck: whether a run of two clients leads to such a state: lincheck explore DEV --clients 2 --calls 2\n";
-
 /// A file that a command reads.
 #[derive(Clone, Copy)]
 struct NamedFile<'a> {
@@ -323,6 +319,14 @@ fn sought_in(request: Request<'_>) -> Option<(&str, usize)> {
     }
 }
 
+/// The line to type if no proof of a condition of a development was found.
+fn to_explore(alloc: Global, path: &str) -> Result<String, OutOfMemory> {
+    let line = format!(in alloc;
+        "lincheck: whether a run of two clients leads to such a state: lincheck explore {path} --clients 2 --calls 2\n"
+    )?;
+    Ok(line)
+}
+
 /// What is said of a certificate that was sought: what is seldom meant in the development; that no proof was found of the condition of a
 /// number, if one is given; and how many proofs were carried.
 fn sought_told(
@@ -350,7 +354,8 @@ fn sought_told(
         let ending = heard.ending();
         let said = unfound_explanation(alloc, source, development, number, ending)?;
         text.extend_from_slice(&said)?;
-        text.extend_from_slice(TO_EXPLORE.as_bytes())?;
+        let further = to_explore(alloc, path)?;
+        text.extend_from_slice(further.as_bytes())?;
     }
     if matches!(request, Request::Carry { .. }) {
         let said = carried_told(alloc, development, unfound, heard)?;
