@@ -38,11 +38,11 @@ ordering_found f development history check budget is is' set given =
     ap₂ (λ x y. Some (FindOrder development history x y)) set given ∙ two_found (ordering (rows_of f)) (codes "HISTORY") f (Some development) (Some history) is is'
 
 -- the task of exploring a development, if clap finds its path, and which calls clients make
-pub exploring_found : (f : Found) (development : Option Text) (setting : Option Setting) (budget : Option ℕ) → development ≡ first_value f (codes "DEV") → setting ≡ setting_given (rows_of f)
-    → budget ≡ number_given (codes "budget") (rows_of f) → option_and_then (λ d. option_map (λ s. ExploreRuns d s budget) setting) development ≡ exploring_task (rows_of f)
-exploring_found f development setting budget is is_setting given =
-    ap₂ (λ x y. option_and_then (λ d. option_map (λ s. ExploreRuns d s budget) y) x) (is ∙ first_value-rows f (codes "DEV")) is_setting
-    ∙ ap (λ b. option_and_then (λ d. option_map (λ s. ExploreRuns d s b) (setting_given (rows_of f))) (first_of (codes "DEV") (rows_of f))) given
+pub exploring_found : (f : Found) (development : Option Text) (setting : Option Setting) (bare : Bool) (budget : Option ℕ) → development ≡ first_value f (codes "DEV") → setting ≡ setting_given (rows_of f)
+    → bare ≡ is_set (codes "bare") (rows_of f) → budget ≡ number_given (codes "budget") (rows_of f) → option_and_then (λ d. option_map (λ s. ExploreRuns d s bare budget) setting) development ≡ exploring_task (rows_of f)
+exploring_found f development setting bare budget is is_setting set given =
+    ap₂ (λ x y. option_and_then (λ d. option_map (λ s. ExploreRuns d s bare budget) y) x) (is ∙ first_value-rows f (codes "DEV")) is_setting
+    ∙ ap₂ (λ a b. option_and_then (λ d. option_map (λ s. ExploreRuns d s a b) (setting_given (rows_of f))) (first_of (codes "DEV") (rows_of f))) set given
 
 pub setting_found : (f : Found) (plan : Option Text) (clients calls : Option ℕ) (numbers : Option Text) (setting : Option Setting) → plan ≡ first_value f (codes "PLAN")
     → clients ≡ number_given (codes "clients") (rows_of f) → calls ≡ number_given (codes "calls") (rows_of f) → numbers ≡ first_value f (codes "numbers") → setting ≡ setting_by plan clients calls numbers

@@ -118,6 +118,13 @@ sized_within t u v = ((((t && true) && true) && (((u && true) && true) && true))
 abbrev sized_within_too : Bool → Bool → Bool → Bool
 sized_within_too t u v = ((((t && true) && true) && (((u && true) && true) && ((((v && true) && true) && true) && true))) && true) && true
 
+-- and those of a size with a flag and the number of a budget behind them
+abbrev bare_within : Bool → Bool → Bool → Bool
+bare_within t u v = ((((t && true) && true) && ((((u && true) && true) && true) && true)) && ((v && true) && true)) && true
+
+abbrev bare_within_too : Bool → Bool → Bool → Bool
+bare_within_too t u v = ((((t && true) && true) && ((((u && true) && true) && true) && ((((v && true) && true) && true) && true))) && true) && true
+
 all_pass : (f : Bool → Bool → Bool → Bool) (t u v : Bool) → t ≡ true → u ≡ true → v ≡ true → f t u v ≡ f true true true
 all_pass f t u v a b c = (λ i. f (a i) (b i) (c i))
 
@@ -197,36 +204,66 @@ words_ask_both name (MakeWhole short (Some n)) is =
     let pass = number_passes n is.1 in
     let read = ap (λ (b : Option ℕ). Some (MakeWhole short b)) (number_back n is.1) in
     asked_both name (codes "complete") (plain short is.0 ∷ known (codes "--budget") ∷ plain (decimal n) (numbers_are_plain n is.1) ∷ []) _ refl (ap passed pass, read) (ap passed_too pass, read) refl
-words_ask_both name (ExploreRuns development (ByPlan other) None) is = asked_both name (codes "explore") (plain development is.0 ∷ plain other is.1 ∷ []) _ refl (refl, refl) (refl, refl) refl
-words_ask_both name (ExploreRuns development (ByPlan other) (Some b)) is =
+words_ask_both name (ExploreRuns development (ByPlan other) false None) is = asked_both name (codes "explore") (plain development is.0 ∷ plain other is.1 ∷ []) _ refl (refl, refl) (refl, refl) refl
+words_ask_both name (ExploreRuns development (ByPlan other) false (Some b)) is =
     let pass = number_passes b is.2 in
-    let read = ap (λ (x : Option ℕ). Some (ExploreRuns development (ByPlan other) x)) (number_back b is.2) in
-    asked_both name (codes "explore") (plain development is.0 ∷ plain other is.1 ∷ known (codes "--budget") ∷ plain (decimal b) (numbers_are_plain b is.2) ∷ []) _ refl (ap passed pass, read) (ap passed_too pass, read) refl
-words_ask_both name (ExploreRuns development (OfSize clients calls None) None) is =
+    let read = ap (λ (x : Option ℕ). Some (ExploreRuns development (ByPlan other) false x)) (number_back b is.2) in
+    asked_both name (codes "explore") (plain development is.0 ∷ plain other is.1 ∷ within b is.2) _ refl (ap passed pass, read) (ap passed_too pass, read) refl
+words_ask_both name (ExploreRuns development (ByPlan other) true None) is = asked_both name (codes "explore") (plain development is.0 ∷ plain other is.1 ∷ known (codes "--bare") ∷ []) _ refl (refl, refl) (refl, refl) refl
+words_ask_both name (ExploreRuns development (ByPlan other) true (Some b)) is =
+    let pass = number_passes b is.2 in
+    let read = ap (λ (x : Option ℕ). Some (ExploreRuns development (ByPlan other) true x)) (number_back b is.2) in
+    asked_both name (codes "explore") (plain development is.0 ∷ plain other is.1 ∷ known (codes "--bare") ∷ within b is.2) _ refl (ap passed pass, read) (ap passed_too pass, read) refl
+words_ask_both name (ExploreRuns development (OfSize clients calls None) false None) is =
     let pass = workers_pass clients is.1.0 is.1.1 in
     let pass_too = workers_pass calls is.1.2 is.1.3 in
-    let read = ap₂ (λ (n m : Option ℕ). option_map (λ s. ExploreRuns development s None) (setting_by None n m None)) (number_back clients (workers_are_few clients is.1.1)) (number_back calls (workers_are_few calls is.1.3)) in
+    let read = ap₂ (λ (n m : Option ℕ). option_map (λ s. ExploreRuns development s false None) (setting_by None n m None)) (number_back clients (workers_are_few clients is.1.1)) (number_back calls (workers_are_few calls is.1.3)) in
     asked_both name (codes "explore") (plain development is.0 ∷ sizes clients calls is.1.1 is.1.3) _ refl (ap₂ both_passed pass pass_too, read) (ap₂ both_passed_too pass pass_too, read) refl
-words_ask_both name (ExploreRuns development (OfSize clients calls None) (Some b)) is =
+words_ask_both name (ExploreRuns development (OfSize clients calls None) false (Some b)) is =
     let pass = workers_pass clients is.1.0 is.1.1 in
     let pass_too = workers_pass calls is.1.2 is.1.3 in
     let pass_b = number_passes b is.2 in
-    let read = ap₂ (λ (n m : Option ℕ). option_map (λ s. ExploreRuns development s (number_in (decimal b))) (setting_by None n m None)) (number_back clients (workers_are_few clients is.1.1)) (number_back calls (workers_are_few calls is.1.3))
-    ∙ ap (λ (x : Option ℕ). Some (ExploreRuns development (OfSize clients calls None) x)) (number_back b is.2) in
+    let read = ap₂ (λ (n m : Option ℕ). option_map (λ s. ExploreRuns development s false (number_in (decimal b))) (setting_by None n m None)) (number_back clients (workers_are_few clients is.1.1)) (number_back calls (workers_are_few calls is.1.3))
+    ∙ ap (λ (x : Option ℕ). Some (ExploreRuns development (OfSize clients calls None) false x)) (number_back b is.2) in
     asked_both name (codes "explore") (plain development is.0 ∷ sizes clients calls is.1.1 is.1.3 ++ within b is.2) _ refl (all_pass sized_within _ _ _ pass pass_too pass_b, read) (all_pass sized_within_too _ _ _ pass pass_too pass_b, read) refl
-words_ask_both name (ExploreRuns development (OfSize clients calls (Some text)) None) is =
+words_ask_both name (ExploreRuns development (OfSize clients calls None) true None) is =
     let pass = workers_pass clients is.1.0 is.1.1 in
     let pass_too = workers_pass calls is.1.2 is.1.3 in
-    let read = ap₂ (λ (n m : Option ℕ). option_map (λ s. ExploreRuns development s None) (setting_by None n m (Some text))) (number_back clients (workers_are_few clients is.1.1)) (number_back calls (workers_are_few calls is.1.3))
-    ∙ ap (λ t. option_map (λ s. ExploreRuns development s None) (if t then Some (OfSize clients calls (Some text)) else None)) is.1.5 in
-    asked_both name (codes "explore") (plain development is.0 ∷ sizes clients calls is.1.1 is.1.3 ++ known (codes "--numbers") ∷ plain text is.1.4 ∷ []) _ refl (ap₂ sized pass pass_too, read) (ap₂ sized pass pass_too, read) refl
-words_ask_both name (ExploreRuns development (OfSize clients calls (Some text)) (Some b)) is =
+    let read = ap₂ (λ (n m : Option ℕ). option_map (λ s. ExploreRuns development s true None) (setting_by None n m None)) (number_back clients (workers_are_few clients is.1.1)) (number_back calls (workers_are_few calls is.1.3)) in
+    asked_both name (codes "explore") (plain development is.0 ∷ sizes clients calls is.1.1 is.1.3 ++ known (codes "--bare") ∷ []) _ refl (ap₂ both_passed_too pass pass_too, read) (ap₂ both_passed_too pass pass_too, read) refl
+words_ask_both name (ExploreRuns development (OfSize clients calls None) true (Some b)) is =
     let pass = workers_pass clients is.1.0 is.1.1 in
     let pass_too = workers_pass calls is.1.2 is.1.3 in
     let pass_b = number_passes b is.2 in
-    let read = ap₂ (λ (n m : Option ℕ). option_map (λ s. ExploreRuns development s (number_in (decimal b))) (setting_by None n m (Some text))) (number_back clients (workers_are_few clients is.1.1)) (number_back calls (workers_are_few calls is.1.3))
-    ∙ ap₂ (λ t (x : Option ℕ). option_map (λ s. ExploreRuns development s x) (if t then Some (OfSize clients calls (Some text)) else None)) is.1.5 (number_back b is.2) in
+    let read = ap₂ (λ (n m : Option ℕ). option_map (λ s. ExploreRuns development s true (number_in (decimal b))) (setting_by None n m None)) (number_back clients (workers_are_few clients is.1.1)) (number_back calls (workers_are_few calls is.1.3))
+    ∙ ap (λ (x : Option ℕ). Some (ExploreRuns development (OfSize clients calls None) true x)) (number_back b is.2) in
+    asked_both name (codes "explore") (plain development is.0 ∷ sizes clients calls is.1.1 is.1.3 ++ known (codes "--bare") ∷ within b is.2) _ refl (all_pass bare_within _ _ _ pass pass_too pass_b, read) (all_pass bare_within_too _ _ _ pass pass_too pass_b, read) refl
+words_ask_both name (ExploreRuns development (OfSize clients calls (Some text)) false None) is =
+    let pass = workers_pass clients is.1.0 is.1.1 in
+    let pass_too = workers_pass calls is.1.2 is.1.3 in
+    let read = ap₂ (λ (n m : Option ℕ). option_map (λ s. ExploreRuns development s false None) (setting_by None n m (Some text))) (number_back clients (workers_are_few clients is.1.1)) (number_back calls (workers_are_few calls is.1.3))
+    ∙ ap (λ t. option_map (λ s. ExploreRuns development s false None) (if t then Some (OfSize clients calls (Some text)) else None)) is.1.5 in
+    asked_both name (codes "explore") (plain development is.0 ∷ sizes clients calls is.1.1 is.1.3 ++ known (codes "--numbers") ∷ plain text is.1.4 ∷ []) _ refl (ap₂ sized pass pass_too, read) (ap₂ sized pass pass_too, read) refl
+words_ask_both name (ExploreRuns development (OfSize clients calls (Some text)) false (Some b)) is =
+    let pass = workers_pass clients is.1.0 is.1.1 in
+    let pass_too = workers_pass calls is.1.2 is.1.3 in
+    let pass_b = number_passes b is.2 in
+    let read = ap₂ (λ (n m : Option ℕ). option_map (λ s. ExploreRuns development s false (number_in (decimal b))) (setting_by None n m (Some text))) (number_back clients (workers_are_few clients is.1.1)) (number_back calls (workers_are_few calls is.1.3))
+    ∙ ap₂ (λ t (x : Option ℕ). option_map (λ s. ExploreRuns development s false x) (if t then Some (OfSize clients calls (Some text)) else None)) is.1.5 (number_back b is.2) in
     asked_both name (codes "explore") (plain development is.0 ∷ sizes clients calls is.1.1 is.1.3 ++ known (codes "--numbers") ∷ plain text is.1.4 ∷ within b is.2) _ refl (all_pass sized_within _ _ _ pass pass_too pass_b, read) (all_pass sized_within_too _ _ _ pass pass_too pass_b, read) refl
+words_ask_both name (ExploreRuns development (OfSize clients calls (Some text)) true None) is =
+    let pass = workers_pass clients is.1.0 is.1.1 in
+    let pass_too = workers_pass calls is.1.2 is.1.3 in
+    let read = ap₂ (λ (n m : Option ℕ). option_map (λ s. ExploreRuns development s true None) (setting_by None n m (Some text))) (number_back clients (workers_are_few clients is.1.1)) (number_back calls (workers_are_few calls is.1.3))
+    ∙ ap (λ t. option_map (λ s. ExploreRuns development s true None) (if t then Some (OfSize clients calls (Some text)) else None)) is.1.5 in
+    asked_both name (codes "explore") (plain development is.0 ∷ sizes clients calls is.1.1 is.1.3 ++ known (codes "--numbers") ∷ plain text is.1.4 ∷ known (codes "--bare") ∷ []) _ refl (ap₂ sized pass pass_too, read) (ap₂ sized pass pass_too, read) refl
+words_ask_both name (ExploreRuns development (OfSize clients calls (Some text)) true (Some b)) is =
+    let pass = workers_pass clients is.1.0 is.1.1 in
+    let pass_too = workers_pass calls is.1.2 is.1.3 in
+    let pass_b = number_passes b is.2 in
+    let read = ap₂ (λ (n m : Option ℕ). option_map (λ s. ExploreRuns development s true (number_in (decimal b))) (setting_by None n m (Some text))) (number_back clients (workers_are_few clients is.1.1)) (number_back calls (workers_are_few calls is.1.3))
+    ∙ ap₂ (λ t (x : Option ℕ). option_map (λ s. ExploreRuns development s true x) (if t then Some (OfSize clients calls (Some text)) else None)) is.1.5 (number_back b is.2) in
+    asked_both name (codes "explore") (plain development is.0 ∷ sizes clients calls is.1.1 is.1.3 ++ known (codes "--numbers") ∷ plain text is.1.4 ∷ known (codes "--bare") ∷ within b is.2) _ refl (all_pass sized_within _ _ _ pass pass_too pass_b, read) (all_pass sized_within_too _ _ _ pass pass_too pass_b, read) refl
 
 pub words_ask : (name : List ℕ) (task : Task) → HasPlainPaths task → AskFor (words_for name task) task
 words_ask name task is = (words_ask_both name task is).0

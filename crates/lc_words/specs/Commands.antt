@@ -137,9 +137,9 @@ explore_files_app = with_rule (with_rule (new_app (codes "explore")) (file_rule 
 abbrev pub explore_size_app : App
 explore_size_app = with_rule (with_rule (with_rule explore_files_app (size_rule (codes "clients"))) (size_rule (codes "calls"))) (option_rule (codes "numbers"))
 
--- `explore DEV [PLAN] [--clients N] [--calls M] [--numbers A,B,..] [--budget N] [--quiet] [--explain]`
+-- `explore DEV [PLAN] [--clients N] [--calls M] [--numbers A,B,..] [--bare] [--budget N] [--quiet] [--explain]`
 abbrev pub explore_app : App
-explore_app = explained (with_rule explore_size_app (number_rule (codes "budget")))
+explore_app = explained (with_rule (with_rule explore_size_app (flag_rule (codes "bare"))) (number_rule (codes "budget")))
 
 -- a command of this name that has a version and needs a subcommand
 abbrev pub needs_subcommand : Text → App

@@ -183,7 +183,7 @@ setting_given rows = setting_by (first_of (codes "PLAN") rows) (number_given (co
 -- the task of exploring a development with these arguments
 abbrev pub exploring_task : List Row → Option Task
 exploring_task rows =
-    option_and_then (λ development. option_map (λ setting. ExploreRuns development setting (number_given (codes "budget") rows)) (setting_given rows)) (first_of (codes "DEV") rows)
+    option_and_then (λ development. option_map (λ setting. ExploreRuns development setting (is_set (codes "bare") rows) (number_given (codes "budget") rows)) (setting_given rows)) (first_of (codes "DEV") rows)
 
 -- the task of a command with its arguments
 abbrev pub task_in_command : Text × List Row → Option Task

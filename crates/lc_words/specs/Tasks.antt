@@ -45,8 +45,8 @@ pub data Setting : Type 0 where
 -- near an entry of the order; that a development with a name is begun; that a text of an object of the library is printed; that an order is
 -- found that linearizes the history in one file by the specification in another, or a word says whether there is one, over as
 -- many nodes as a number says, if one is given; that the short development in a file is made whole, in as many steps for a condition as a
--- number says, if one is given; or that the development in a file is explored, whose clients make such calls, over as many worlds as a
--- number says, if one is given
+-- number says, if one is given; or that the development in a file is explored, whose clients make such calls, or its object alone, over as
+-- many worlds as a number says, if one is given
 pub data Task : Type 0 where
   CheckFormula : (path : List ℕ) → Task
   JudgeHistory : (development history : List ℕ) → Task
@@ -67,7 +67,7 @@ pub data Task : Type 0 where
   PrintLibrary : (lib : Lib) (text : LibraryText) → Task
   FindOrder : (development history : List ℕ) (check : Bool) (budget : Option ℕ) → Task
   MakeWhole : (short : List ℕ) (budget : Option ℕ) → Task
-  ExploreRuns : (development : List ℕ) (setting : Setting) (budget : Option ℕ) → Task
+  ExploreRuns : (development : List ℕ) (setting : Setting) (bare : Bool) (budget : Option ℕ) → Task
 
 -- the task of showing a development, on two lines or laid out
 abbrev pub showing : List ℕ → (lines : Bool) → Task
@@ -125,7 +125,7 @@ task_of (New name) = BeginDevelopment name.now
 task_of (Library lib text) = PrintLibrary lib text
 task_of (Order development history check budget) = FindOrder development.now history.now check budget
 task_of (Complete short budget progress) = MakeWhole short.now budget
-task_of (Explore development scope budget) = ExploreRuns development.now (setting_of scope) budget
+task_of (Explore development scope bare budget) = ExploreRuns development.now (setting_of scope) bare budget
 
 -- the texts of the words
 abbrev pub texts_of : List (String Global) → List Text
@@ -188,6 +188,11 @@ setting_words (ByPlan plan) = plan ∷ []
 setting_words (OfSize clients calls None) = codes "--clients" ∷ decimal clients ∷ codes "--calls" ∷ decimal calls ∷ []
 setting_words (OfSize clients calls (Some text)) = codes "--clients" ∷ decimal clients ∷ codes "--calls" ∷ decimal calls ∷ codes "--numbers" ∷ text ∷ []
 
+-- the word that asks for the object alone
+abbrev pub bare_words : (bare : Bool) → List Text
+bare_words false = []
+bare_words true = codes "--bare" ∷ []
+
 -- the words that ask for a task, after the name of the program
 abbrev pub words_for : List ℕ → Task → List Text
 words_for name (CheckFormula path) = name ∷ codes "formula" ∷ path ∷ []
@@ -209,7 +214,7 @@ words_for name (BeginDevelopment own) = name ∷ codes "new" ∷ own ∷ []
 words_for name (PrintLibrary lib text) = library_words name (name_of lib) text
 words_for name (FindOrder development history check budget) = name ∷ codes "order" ∷ development ∷ history ∷ order_words check budget
 words_for name (MakeWhole short budget) = name ∷ codes "complete" ∷ short ∷ budget_words budget
-words_for name (ExploreRuns development setting budget) = name ∷ codes "explore" ∷ development ∷ setting_words setting ++ budget_words budget
+words_for name (ExploreRuns development setting bare budget) = name ∷ codes "explore" ∷ development ∷ setting_words setting ++ bare_words bare ++ budget_words budget
 
 -- no word of it begins with a hyphen
 abbrev pub HasPlainWords : Filter → Type 0
@@ -259,7 +264,7 @@ HasPlainPaths (BeginDevelopment name) = is_development_name name ≡ true
 HasPlainPaths (PrintLibrary lib text) = Unit {0}
 HasPlainPaths (FindOrder development history check budget) = (is_plain development ≡ true) × (is_plain history ≡ true) × IfSome budget (λ n. n < 2 ^ 64)
 HasPlainPaths (MakeWhole short budget) = (is_plain short ≡ true) × IfSome budget (λ n. n < 2 ^ 64)
-HasPlainPaths (ExploreRuns development setting budget) = (is_plain development ≡ true) × IsSmall setting × IfSome budget (λ n. n < 2 ^ 64)
+HasPlainPaths (ExploreRuns development setting bare budget) = (is_plain development ≡ true) × IsSmall setting × IfSome budget (λ n. n < 2 ^ 64)
 
 -- it reads files
 abbrev pub ReadsFiles : Task → Type 0

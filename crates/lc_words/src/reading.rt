@@ -323,10 +323,12 @@ fn explore_request<'a>(command: &ArgMatches<'a>) -> Option<Request<'a>>
     let calls = number_given(command, "calls");
     let numbers = command.get_str("numbers");
     let scope = scope_by(plan, clients, calls, numbers)?;
+    let bare = is_set(command, "bare");
     let budget = number_given(command, "budget");
     Some(Request::Explore {
         development,
         scope,
+        bare,
         budget,
     })
 }

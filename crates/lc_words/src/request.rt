@@ -130,10 +130,12 @@ pub enum Request<'a> {
         budget: Option<u64>,
         progress: bool,
     },
-    /// Explore the development in a file, whose clients make such calls, over `budget` worlds, if a number is given.
+    /// Explore the development in a file, whose clients make such calls, over `budget` worlds, if a number is given; or its object alone, without
+    /// what stands beside its code.
     Explore {
         development: &'a str,
         scope: Scope<'a>,
+        bare: bool,
         budget: Option<u64>,
     },
     /// Print a development of this name to begin with.

@@ -378,6 +378,8 @@ pub(crate) const EXPLORE_CALLS: &str = "Each of them makes at most N calls";
 
 pub(crate) const EXPLORE_NUMBERS: &str = "The numbers of their calls (by default 0,1)";
 
+pub(crate) const EXPLORE_BARE: &str = "Look at the code and the specification alone";
+
 pub(crate) const EXPLORE_BUDGET: &str = "Meet at most N worlds (by default 1,000,000)";
 
 pub(crate) const EXPLORE_ANSWER: &str = "\
@@ -391,6 +393,12 @@ numbers A, B, .. In each world the invariant and what is asserted of each client
   budget COUNT      there are more worlds than these
 After `fails` and `overflow` stands a shortest run to such a step: a line for each step as `run --trace` prints it, and its history with the
 order of its marks, as `draw` reads it. The last step is left out if a mark of it is not lawful, or if it leaves 64 bits.
+With --bare nothing that stands beside the code is asked for: it is looked at whether some order explains the replies. Prints one line:
+  explored COUNT    each history by these calls is linearizable; there are so many worlds, with what explains each
+  not-linearizable  no order linearizes the history of a run, which stands behind it
+  overflow          a number of a run leaves 64 bits
+  unknown           no order of a run was found, and it was not shown that there is none
+  budget COUNT      there are more worlds than these
 Quantifiers are tried at the numbers from -1 to 8, and at all of a range that the formula gives. Else it prints one line:
   refused CODE ..  DEV is refused as by `show`, or PLAN as by `run`
 
