@@ -61,7 +61,8 @@ AnswersTask bytes_at (PrintLibrary lib asked) text status = AnswersLibrary lib a
 AnswersTask bytes_at (FindOrder development history check budget) text status =
     OfFile (bytes_at development) (λ file. AnswersOrder check file (bytes_at history) text status)
 AnswersTask bytes_at (MakeWhole short budget) text status = OfFile (bytes_at short) (λ file. AnswersComplete file text status)
-AnswersTask bytes_at (ExploreRuns development setting budget) text status = OfFile (bytes_at development) (λ file. AnswersExplore bytes_at budget setting file text status)
+AnswersTask bytes_at (ExploreRuns development setting bare budget) text status =
+    OfFile (bytes_at development) (λ file. AnswersExplore bytes_at bare budget setting file text status)
 
 -- A file that a task needs cannot be opened: the only one or the development; or the other, if the development is read
 abbrev pub IsUnread : (List ℕ → Type 0) → (List ℕ → Option (List ℕ)) → Task → Type 0
@@ -96,7 +97,7 @@ IsUnread CannotOpen bytes_at (FindOrder development history check budget) =
     CannotOpen development
     ⊎ ((file : List ℕ) × (spec : Specification) × (bytes_at development ≡ Some file) × Says first_reading file spec × CannotOpen history)
 IsUnread CannotOpen bytes_at (MakeWhole short budget) = CannotOpen short
-IsUnread CannotOpen bytes_at (ExploreRuns development setting budget) = IsUnreadExplore CannotOpen bytes_at development setting
+IsUnread CannotOpen bytes_at (ExploreRuns development setting bare budget) = IsUnreadExplore CannotOpen bytes_at development setting
 
 -- The program ends with a task: with a fault of reading, or out of memory, and nothing is printed; or with an answer for which
 -- this holds, which is appended to standard output, unless there is a fault of writing, or memory runs out while

@@ -1,5 +1,6 @@
 -- The answers to a development's file that is explored, and to a plan's.
 use Rattle.std.specs.Prelude.{◌≡◌, ℕ, ◌⊎◌, ℤ, pos, List, [], ◌∷◌, Bool, true, false, Option, Some, None}
+use Rattle.lc_findings.specs.Bare.{FindsBare}
 use Rattle.lc_findings.specs.Findings.{Finds}
 use Rattle.lc_numbers.specs.Numbers.{whole_numbers_in}
 use Rattle.lc_outline.specs.Development.{Development}
@@ -34,24 +35,25 @@ abbrev pub status_for : Bool → ℕ
 status_for true = 0
 status_for false = 1
 
--- what exploring a development finds whose clients make the calls of scripts
-abbrev pub ExploresSo : Option ℕ → Development → Scripts → List ℕ → ℕ → Type 0
-ExploresSo budget D scripts text status =
+-- what exploring a development finds whose clients make the calls of scripts, or its object alone
+abbrev pub ExploresSo : (bare : Bool) → Option ℕ → Development → Scripts → List ℕ → ℕ → Type 0
+ExploresSo false budget D scripts text status =
     (tried : List ℤ) × (right : Bool) × (found : Option ℕ) × Finds D scripts tried (allowed budget) text right found × (status ≡ status_for right)
+ExploresSo true budget D scripts text status = (right : Bool) × FindsBare D scripts (allowed budget) text right × (status ≡ status_for right)
 
 -- the file of the plan is refused; or the development is explored by it
-abbrev pub AnswersExplored : Option ℕ → Development → List ℕ → List ℕ → ℕ → Type 0
-AnswersExplored budget D file text status = RefusesPlan D file text status ⊎ ((P : Plan) × Says (plan_reading D) file P × ExploresSo budget D (scripts_in P) text status)
+abbrev pub AnswersExplored : (bare : Bool) → Option ℕ → Development → List ℕ → List ℕ → ℕ → Type 0
+AnswersExplored bare budget D file text status = RefusesPlan D file text status ⊎ ((P : Plan) × Says (plan_reading D) file P × ExploresSo bare budget D (scripts_in P) text status)
 
 -- a development is explored whose clients make such calls
-abbrev pub ExploresAs : (List ℕ → Option (List ℕ)) → Option ℕ → Development → Setting → List ℕ → ℕ → Type 0
-ExploresAs bytes_at budget D (ByPlan plan) text status = OfFile (bytes_at plan) (λ file. AnswersExplored budget D file text status)
-ExploresAs bytes_at budget D (OfSize clients calls numbers) text status = ExploresSo budget D (any_scripts D.object clients calls (call_numbers numbers)) text status
+abbrev pub ExploresAs : (List ℕ → Option (List ℕ)) → (bare : Bool) → Option ℕ → Development → Setting → List ℕ → ℕ → Type 0
+ExploresAs bytes_at bare budget D (ByPlan plan) text status = OfFile (bytes_at plan) (λ file. AnswersExplored bare budget D file text status)
+ExploresAs bytes_at bare budget D (OfSize clients calls numbers) text status = ExploresSo bare budget D (any_scripts D.object clients calls (call_numbers numbers)) text status
 
 -- The answer to a development's file: its refusal, whatever a plan's file has; or what exploring it finds
-abbrev pub AnswersExplore : (List ℕ → Option (List ℕ)) → Option ℕ → Setting → List ℕ → List ℕ → ℕ → Type 0
-AnswersExplore bytes_at budget setting development text status =
-    TellsRefusal development text status ⊎ ((D : Development) × Says file_reading development D × ExploresAs bytes_at budget D setting text status)
+abbrev pub AnswersExplore : (List ℕ → Option (List ℕ)) → (bare : Bool) → Option ℕ → Setting → List ℕ → List ℕ → ℕ → Type 0
+AnswersExplore bytes_at bare budget setting development text status =
+    TellsRefusal development text status ⊎ ((D : Development) × Says file_reading development D × ExploresAs bytes_at bare budget D setting text status)
 
 -- the file of a plan cannot be opened, where there is one
 abbrev pub IsUnreadSetting : (List ℕ → Type 0) → Setting → Type 0

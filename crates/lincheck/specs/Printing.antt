@@ -41,7 +41,7 @@ IsInPieces (BeginDevelopment name) = ⊥
 IsInPieces (PrintLibrary lib text) = ⊥
 IsInPieces (FindOrder development history check budget) = ⊥
 IsInPieces (MakeWhole short budget) = ⊥
-IsInPieces (ExploreRuns development setting budget) = ⊥
+IsInPieces (ExploreRuns development setting bare budget) = ⊥
 
 -- an answer is printed, and its status answered; else nothing is, or of an answer that is printed as it is made a beginning,
 -- unless writing it failed

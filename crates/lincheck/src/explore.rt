@@ -1,5 +1,5 @@
 //! The command `explore`.
-ghost use Rattle.std.specs.Prelude.{◌≡◌, ℕ, List, IfOk, IsErr};
+ghost use Rattle.std.specs.Prelude.{◌≡◌, ℕ, Bool, List, IfOk, IsErr};
 ghost use Rattle.lc_outline.specs.Development as outline;
 ghost use Rattle.lc_outline.specs.DevelopmentView.{development_view};
 ghost use Rattle.lc_stages.specs.Scripts.{Scripts};
@@ -15,13 +15,22 @@ use crate::check::open_development;
 use crate::files::Files;
 use crate::run::open_plan;
 use lc_base::{OutOfMemory, write_line};
-use lc_findings::{Findings, find_faults};
+use lc_findings::{Findings, find_bare_faults, find_faults};
 use lc_numbers::numbers_in;
 use lc_outline::Development;
 use lc_seq::TextCall;
 use lc_tour::{any_scripts, scripts_of};
 use lc_words::Scope;
 use std::alloc::Global;
+
+/// How a development is explored.
+#[derive(Clone, Copy)]
+pub struct Exploration {
+    /// Its object alone is, without what stands beside the code.
+    pub bare: bool,
+    /// How many worlds are met at most, if a number is given.
+    pub budget: Option<u64>,
+}
 
 /// How many worlds are met at most, if no number is given. `allowed` in `specs/Explore.antt` has the same.
 const BUDGET: u64 = 1_000_000;
@@ -81,17 +90,35 @@ fn why_of(found: &Findings) -> Option<Why> {
     }
 }
 
+/// What exploring a development finds, or its object alone.
+fn found_by(
+    alloc: Global,
+    development: &Development,
+    scripts: &[Vec<Vec<TextCall>>],
+    search: Exploration,
+) -> Result<Findings, OutOfMemory>
+    ensures { IfOk result (λ f. ExploresSo search.bare search.budget (development_view development.now) (scripts_view scripts.now) f.text.items (status_for f.is_right)) }
+{
+    let budget = allowed(search.budget);
+    if search.bare {
+        let found = find_bare_faults(alloc, development, scripts, budget)?;
+        return Ok(found);
+    }
+    let numbers = numbers_tried(alloc)?;
+    let found = find_faults(alloc, development, scripts, &numbers, budget)?;
+    Ok(found)
+}
+
 /// The answer of exploring a development whose clients make the calls of scripts, over so many worlds, if a number is given.
 fn explore_by(
     alloc: Global,
     development: &Development,
     scripts: &[Vec<Vec<TextCall>>],
-    budget: Option<u64>,
+    search: Exploration,
 ) -> Result<Answer, OutOfMemory>
-    ensures { IfOk result (λ answer. ExploresSo budget (development_view development.now) (scripts_view scripts.now) answer.text.items answer.status) }
+    ensures { IfOk result (λ answer. ExploresSo search.bare search.budget (development_view development.now) (scripts_view scripts.now) answer.text.items answer.status) }
 {
-    let numbers = numbers_tried(alloc)?;
-    let found = find_faults(alloc, development, scripts, &numbers, allowed(budget))?;
+    let found = found_by(alloc, development, scripts, search)?;
     let status = status_for(found.is_right);
     let why = why_of(&found);
     Ok(Answer {
@@ -103,7 +130,7 @@ fn explore_by(
 
 /// The answer that there are more worlds than were allowed, or more clients.
 fn told_budget(alloc: Global, budget: Option<u64>) -> Result<Answer, OutOfMemory>
-    ensures { (D : outline.Development) (scripts : Scripts) → IfOk result (λ answer. ExploresSo budget D scripts answer.text.items answer.status) }
+    ensures { (bare : Bool) (D : outline.Development) (scripts : Scripts) → IfOk result (λ answer. ExploresSo bare budget D scripts answer.text.items answer.status) }
 {
     let text = write_line(alloc, "budget", &[allowed(budget)])?;
     Ok(Answer {
@@ -120,17 +147,17 @@ fn explore_any(
     clients: u64,
     calls: u64,
     text: Option<&str>,
-    budget: Option<u64>,
+    search: Exploration,
 ) -> Result<Answer, OutOfMemory>
-    ensures { IfOk result (λ answer. ExploresSo budget (development_view development.now) (any_scripts (development_view development.now).object clients calls (call_numbers (path_in text.entry))) answer.text.items answer.status) }
+    ensures { IfOk result (λ answer. ExploresSo search.bare search.budget (development_view development.now) (any_scripts (development_view development.now).object clients calls (call_numbers (path_in text.entry))) answer.text.items answer.status) }
 {
     let Ok(few) = u32::try_from(clients) else {
-        return told_budget(alloc, budget);
+        return told_budget(alloc, search.budget);
     };
     let numbers = call_numbers(alloc, text)?;
     let object = &development.parts().object;
     let scripts = any_scripts(alloc, object, few, calls as usize, &numbers)?;
-    let answer = explore_by(alloc, development, &scripts, budget)?;
+    let answer = explore_by(alloc, development, &scripts, search)?;
     Ok(answer)
 }
 
@@ -140,15 +167,15 @@ fn answer_explored<'a, F: Files>(
     files: &mut F,
     development: &Development,
     path: &'a str,
-    budget: Option<u64>,
+    search: Exploration,
 ) -> Result<Answer, Failure<'a>>
     ensures unread { F.CannotOpen files.old path.now → IsErr result }
-    ensures answers { IfOk result (λ answer. OfFile (F.bytes_at files.old path.now) (λ file. AnswersExplored budget (development_view development.now) file answer.text.items answer.status)) }
+    ensures answers { IfOk result (λ answer. OfFile (F.bytes_at files.old path.now) (λ file. AnswersExplored search.bare search.budget (development_view development.now) file answer.text.items answer.status)) }
 {
     match open_plan(alloc, files, development, path)? {
         Ok(plan) => {
             let scripts = scripts_of(alloc, &plan)?;
-            let answer = explore_by(alloc, development, &scripts, budget)?;
+            let answer = explore_by(alloc, development, &scripts, search)?;
             Ok(answer)
         }
         Err(answer) => Ok(answer),
@@ -161,19 +188,19 @@ fn answer_in<'a, F: Files>(
     files: &mut F,
     development: &Development,
     scope: Scope<'a>,
-    budget: Option<u64>,
+    search: Exploration,
 ) -> Result<Answer, Failure<'a>>
     ensures unread { IsUnreadSetting (F.CannotOpen files.old) (setting_of scope.entry) → IsErr result }
-    ensures answers { IfOk result (λ answer. ExploresAs (F.bytes_at files.old) budget (development_view development.now) (setting_of scope.entry) answer.text.items answer.status) }
+    ensures answers { IfOk result (λ answer. ExploresAs (F.bytes_at files.old) search.bare search.budget (development_view development.now) (setting_of scope.entry) answer.text.items answer.status) }
 {
     match scope {
-        Scope::Plan(path) => answer_explored(alloc, files, development, path, budget),
+        Scope::Plan(path) => answer_explored(alloc, files, development, path, search),
         Scope::Size {
             clients,
             calls,
             numbers,
         } => {
-            let answer = explore_any(alloc, development, clients, calls, numbers, budget)?;
+            let answer = explore_any(alloc, development, clients, calls, numbers, search)?;
             Ok(answer)
         }
     }
@@ -186,13 +213,13 @@ pub fn answer_explore<'a, F: Files>(
     files: &mut F,
     development: &'a str,
     scope: Scope<'a>,
-    budget: Option<u64>,
+    search: Exploration,
 ) -> Result<Answer, Failure<'a>>
-    ensures unread { IsUnread (F.CannotOpen files.old) (F.bytes_at files.old) (ExploreRuns development.now (setting_of scope.entry) budget) → IsErr result }
-    ensures answers { IfOk result (λ answer. AnswersTask (F.bytes_at files.old) (ExploreRuns development.now (setting_of scope.entry) budget) answer.text.items answer.status) }
+    ensures unread { IsUnread (F.CannotOpen files.old) (F.bytes_at files.old) (ExploreRuns development.now (setting_of scope.entry) search.bare search.budget) → IsErr result }
+    ensures answers { IfOk result (λ answer. AnswersTask (F.bytes_at files.old) (ExploreRuns development.now (setting_of scope.entry) search.bare search.budget) answer.text.items answer.status) }
 {
     match open_development(alloc, files, development)? {
-        Ok(development) => answer_in(alloc, files, &development, scope, budget),
+        Ok(development) => answer_in(alloc, files, &development, scope, search),
         Err(answer) => Ok(answer),
     }
 }

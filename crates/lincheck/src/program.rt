@@ -14,7 +14,7 @@ use crate::complete::answer_complete;
 use crate::conditions::answer_conditions;
 use crate::draw::answer_draw;
 use crate::explain::{explain, is_kept};
-use crate::explore::answer_explore;
+use crate::explore::{Exploration, answer_explore};
 use crate::files::Files;
 use crate::formula::answer_formula;
 use crate::judge::answer_judge;
@@ -163,9 +163,11 @@ fn carry_out<'a, R: Threads + Wait + Sync, F: Files, O: Write, E: Write>(
         Request::Explore {
             development,
             scope,
+            bare,
             budget,
         } => {
-            let answer = answer_explore(alloc, files, development, scope, budget)?;
+            let search = Exploration { bare, budget };
+            let answer = answer_explore(alloc, files, development, scope, search)?;
             print_told(out, why, &answer)
         }
         Request::New(name) => print_told(out, why, &answer_new(alloc, name)?),

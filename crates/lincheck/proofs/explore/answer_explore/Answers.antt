@@ -14,14 +14,14 @@ returns-in-Ok-clause-answers g c =
     let after = g.F.Files.bytes_at c.open_development.new.files in
     let known = before c.args.development.now in
     let says = subst (λ (o : Result Development Answer). OfFile known (λ file. OpensAs file o)) c.in-Ok.is c.in_ok-development.ensures.opens in
-    explore_answered before after c.args.budget (setting_of c.args.scope) known (development_view c.in-Ok.development) c.answer_in.result says c.in_ok-development.ensures.keeps c.answer_in.ensures.answers
+    explore_answered before after c.args.search.bare c.args.search.budget (setting_of c.args.scope) known (development_view c.in-Ok.development) c.answer_in.result says c.in_ok-development.ensures.keeps c.answer_in.ensures.answers
 
 pub returns-in-Err-clause-answers : goal.returns-in-Err-clause-answers
 returns-in-Err-clause-answers g c =
     let before = g.F.Files.bytes_at c.args.files.now in
     let known = before c.args.development.now in
     let tells = subst (λ (o : Result Development Answer). OfFile known (λ file. OpensAs file o)) c.in-Err.is c.in_ok-development.ensures.opens in
-    explore_refused before c.args.budget (setting_of c.args.scope) known c.in-Err.answer tells
+    explore_refused before c.args.search.bare c.args.search.budget (setting_of c.args.scope) known c.in-Err.answer tells
 
 pub returns-in-Ok-clause-unread : goal.returns-in-Ok-clause-unread
 returns-in-Ok-clause-unread g c = λ unread.

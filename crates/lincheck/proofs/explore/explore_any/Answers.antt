@@ -13,4 +13,4 @@ returns c =
     let few : c.in-Ok.few ≡ c.args.clients = search rules in
     let numbers = c.deref.ensures.value ∙ c.in_ok-numbers.ensures in
     let made = ap scripts_view c.deref-2.ensures.value ∙ c.in_ok-scripts.ensures in
-    subst (λ (s : Scripts). ExploresSo c.args.budget D s answer.text.items answer.status) (made ∙ (λ i. any_scripts ((c.parts.ensures.shown i).object) (few i) c.args.calls (numbers i))) c.in_ok-answer.ensures
+    subst (λ (s : Scripts). ExploresSo c.args.search.bare c.args.search.budget D s answer.text.items answer.status) (made ∙ (λ i. any_scripts ((c.parts.ensures.shown i).object) (few i) c.args.calls (numbers i))) c.in_ok-answer.ensures

@@ -1,10 +1,11 @@
+use Rattle.std.proofs.Common.{ℕ, subst, sym}
 use Rattle.lc_outline.specs.DevelopmentView.{development_view}
 use Rattle.lc_worlds.specs.Seats.{scripts_view}
-use Rattle.lincheck.proofs.Exploring.{found_told}
+use Rattle.lincheck.specs.Explore.{ExploresSo}
 use Rattle.lincheck.proofs.explore.explore_by.Goals as goal
 
 pub returns : goal.returns
 returns c =
-    let found = c.in_ok-found.found in
-    found_told c.args.budget (development_view c.args.development.now) (scripts_view c.args.scripts.now) _ found.text.items found.is_right found.condition c.allowed.result c.status_for-status.result
-    c.in_ok-found.ensures c.allowed.ensures c.status_for-status.ensures
+    subst
+    (λ (n : ℕ). ExploresSo c.args.search.bare c.args.search.budget (development_view c.args.development.now) (scripts_view c.args.scripts.now) c.in_ok-found.found.text.items n)
+    (sym c.status_for-status.ensures) c.in_ok-found.ensures
