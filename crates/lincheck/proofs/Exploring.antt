@@ -1,5 +1,5 @@
 -- What a development's file and a plan's are answered, by which it is explored.
-use Rattle.std.proofs.Common.{◌≡◌, ℕ, ℤ, ◌⊎◌, Bool, false, codes, List, [], ◌∷◌, Option, IfOk, Result, Ok, Err, refl, ap, ◌∙◌, subst, inl, inr}
+use Rattle.std.proofs.Common.{◌≡◌, ℕ, ℤ, ◌⊎◌, Bool, false, codes, List, [], ◌∷◌, Option, None, IfOk, Result, Ok, Err, refl, ap, ◌∙◌, subst, inl, inr}
 use Rattle.lc_base.specs.Line.{line_of}
 use Rattle.lc_findings.specs.Findings.{Finds}
 use Rattle.lc_outline.specs.Development.{Development}
@@ -21,12 +21,12 @@ use Rattle.lincheck.proofs.Read.{read_known, read_so}
 
 -- there are more worlds than were allowed
 pub budget_told : (budget : Option ℕ) (D : Development) (scripts : Scripts) (text : List ℕ) (n : ℕ) → text ≡ line_of (codes "budget") (n ∷ []) → n ≡ allowed budget → ExploresSo budget D scripts text 1
-budget_told budget D scripts text n is given = ([], false, inr (inr (inr (is ∙ ap (λ m. line_of (codes "budget") (m ∷ [])) given, refl))), refl)
+budget_told budget D scripts text n is given = ([], false, None, inr (inr (inr (is ∙ ap (λ m. line_of (codes "budget") (m ∷ [])) given, refl))), refl)
 
 -- exploring finds something
-pub found_told : (budget : Option ℕ) (D : Development) (scripts : Scripts) (tried : List ℤ) (text : List ℕ) (right : Bool) (n status : ℕ) → Finds D scripts tried n text right → n ≡ allowed budget
+pub found_told : (budget : Option ℕ) (D : Development) (scripts : Scripts) (tried : List ℤ) (text : List ℕ) (right : Bool) (found : Option ℕ) (n status : ℕ) → Finds D scripts tried n text right found → n ≡ allowed budget
     → status ≡ status_for right → ExploresSo budget D scripts text status
-found_told budget D scripts tried text right n status finds given is = (tried, right, subst (λ m. Finds D scripts tried m text right) given finds, is)
+found_told budget D scripts tried text right found n status finds given is = (tried, right, found, subst (λ m. Finds D scripts tried m text right found) given finds, is)
 
 -- a plan that is read
 pub explored_answered : (budget : Option ℕ) (D : Development) (known : Option (List ℕ)) (plan : Plan) (scripts : Scripts) (text : List ℕ) (status : ℕ) → OfFile known (λ file. OpensPlan D file (Ok plan))

@@ -36,7 +36,8 @@ status_for false = 1
 
 -- what exploring a development finds whose clients make the calls of scripts
 abbrev pub ExploresSo : Option ℕ → Development → Scripts → List ℕ → ℕ → Type 0
-ExploresSo budget D scripts text status = (tried : List ℤ) × (right : Bool) × Finds D scripts tried (allowed budget) text right × (status ≡ status_for right)
+ExploresSo budget D scripts text status =
+    (tried : List ℤ) × (right : Bool) × (found : Option ℕ) × Finds D scripts tried (allowed budget) text right found × (status ≡ status_for right)
 
 -- the file of the plan is refused; or the development is explored by it
 abbrev pub AnswersExplored : Option ℕ → Development → List ℕ → List ℕ → ℕ → Type 0
@@ -45,7 +46,7 @@ AnswersExplored budget D file text status = RefusesPlan D file text status ⊎ (
 -- a development is explored whose clients make such calls
 abbrev pub ExploresAs : (List ℕ → Option (List ℕ)) → Option ℕ → Development → Setting → List ℕ → ℕ → Type 0
 ExploresAs bytes_at budget D (ByPlan plan) text status = OfFile (bytes_at plan) (λ file. AnswersExplored budget D file text status)
-ExploresAs bytes_at budget D (OfSize clients calls numbers) text status = ExploresSo budget D (any_scripts D.object (call_numbers numbers) clients calls) text status
+ExploresAs bytes_at budget D (OfSize clients calls numbers) text status = ExploresSo budget D (any_scripts D.object clients calls (call_numbers numbers)) text status
 
 -- The answer to a development's file: its refusal, whatever a plan's file has; or what exploring it finds
 abbrev pub AnswersExplore : (List ℕ → Option (List ℕ)) → Option ℕ → Setting → List ℕ → List ℕ → ℕ → Type 0

@@ -1,7 +1,7 @@
 -- What a task leaves on standard output.
 use Rattle.std.specs.Prelude.{◌≡◌, ℕ, ◌⊎◌, List, ◌++◌, Option, Result, Ok, Err}
 use Rattle.std.specs.Io.KnownBytes.{Keeps, Appends}
-use Rattle.lc_words.specs.Tasks.{Task, CheckFormula, JudgeHistory, ShowDevelopment, ShowLines, ListConditions, ListChosen, ShowCondition, CheckByWorkers, CheckCertificate, ProveDevelopment, ProveWithHints, DrawHistory, BeginDevelopment, PrintLibrary, CarryCertificate, CarryWithHints, RunPlan, FindOrder, MakeWhole}
+use Rattle.lc_words.specs.Tasks.{Task, CheckFormula, JudgeHistory, ShowDevelopment, ShowLines, ListConditions, ListChosen, ShowCondition, CheckByWorkers, CheckCertificate, ProveDevelopment, ProveWithHints, DrawHistory, BeginDevelopment, PrintLibrary, CarryCertificate, CarryWithHints, RunPlan, FindOrder, MakeWhole, ExploreRuns}
 use Rattle.lincheck.specs.declared.answer.Failure.{Failure}
 use Rattle.lincheck.specs.declared.answer.Failure.TheVariants.{CannotRead, CannotWrite, OutOfMemory}
 
@@ -41,6 +41,7 @@ IsInPieces (BeginDevelopment name) = ⊥
 IsInPieces (PrintLibrary lib text) = ⊥
 IsInPieces (FindOrder development history check budget) = ⊥
 IsInPieces (MakeWhole short budget) = ⊥
+IsInPieces (ExploreRuns development setting budget) = ⊥
 
 -- an answer is printed, and its status answered; else nothing is, or of an answer that is printed as it is made a beginning,
 -- unless writing it failed

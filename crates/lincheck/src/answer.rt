@@ -32,6 +32,8 @@ pub enum Why {
     Refused(Refusal),
     /// Of the condition of this number no proof was found.
     Unfound(u64),
+    /// The condition of this number fails where a run leads.
+    Failing(u64),
     /// No order linearizes this many first events of a history.
     Unordered(u64),
     /// No order of a history was found, and of a call not all choices were tried.

@@ -30,6 +30,11 @@ const OVERFLOW: &str =
     "no order was found, and nothing is known of the history: where some call was tried, a number that the specification \
 reaches left 64 bits; an order that you know is looked at, as `\"order\"` in the file";
 
+/// What is said behind a condition that fails where a run leads.
+const FAILING: &str =
+    "lincheck: this condition fails where the run leads, with the numbers that its clients have there; so no certificate is accepted: the \
+object, a mark, an assertion, the invariant or an action has to be changed\n";
+
 /// A file that a command reads.
 #[derive(Clone, Copy)]
 struct NamedFile<'a> {
@@ -314,6 +319,14 @@ fn sought_in(request: Request<'_>) -> Option<(&str, usize)> {
     }
 }
 
+/// The line to type if no proof of a condition of a development was found.
+fn to_explore(alloc: Global, path: &str) -> Result<String, OutOfMemory> {
+    let line = format!(in alloc;
+        "lincheck: whether a run of two clients leads to such a state: lincheck explore {path} --clients 2 --calls 2\n"
+    )?;
+    Ok(line)
+}
+
 /// What is said of a certificate that was sought: what is seldom meant in the development; that no proof was found of the condition of a
 /// number, if one is given; and how many proofs were carried.
 fn sought_told(
@@ -341,6 +354,8 @@ fn sought_told(
         let ending = heard.ending();
         let said = unfound_explanation(alloc, source, development, number, ending)?;
         text.extend_from_slice(&said)?;
+        let further = to_explore(alloc, path)?;
+        text.extend_from_slice(further.as_bytes())?;
     }
     if matches!(request, Request::Carry { .. }) {
         let said = carried_told(alloc, development, unfound, heard)?;
@@ -379,6 +394,21 @@ fn condition_told(
         }
         None => Ok(None),
     }
+}
+
+/// What is said of a condition that fails where a run leads.
+fn failing_told(
+    alloc: Global,
+    request: Request<'_>,
+    texts: &Texts,
+    heard: &Heard,
+    number: u64,
+) -> Result<Option<Vec<u8>>, OutOfMemory> {
+    let Some(mut text) = condition_told(alloc, request, texts, heard, number)? else {
+        return Ok(None);
+    };
+    text.extend_from_slice(FAILING.as_bytes())?;
+    Ok(Some(text))
 }
 
 /// The names of the points of a development, with commas between them.
@@ -457,6 +487,7 @@ fn why_told(
     match why {
         Some(Why::Refused(refusal)) => refused_told(alloc, request, texts, &refusal, heard),
         Some(Why::Unfound(number)) => sought_told(alloc, request, texts, Some(number), heard),
+        Some(Why::Failing(number)) => failing_told(alloc, request, texts, heard, number),
         Some(Why::Unordered(count)) => unordered_told(alloc, request, texts, count),
         Some(Why::UntriedChoices) => own_line(alloc, UNTRIED_CHOICES),
         Some(Why::Overflow) => own_line(alloc, OVERFLOW),

@@ -1,6 +1,6 @@
 //! The command `explore`.
 ghost use Rattle.std.specs.Prelude.{◌≡◌, ℕ, List, IfOk, IsErr};
-ghost use Rattle.lc_outline.specs.Development.{Development};
+ghost use Rattle.lc_outline.specs.Development as outline;
 ghost use Rattle.lc_outline.specs.DevelopmentView.{development_view};
 ghost use Rattle.lc_stages.specs.Scripts.{Scripts};
 ghost use Rattle.lc_tour.specs.AnyCalls.{any_scripts};
@@ -10,12 +10,12 @@ ghost use Rattle.lincheck.specs.Execution.{AnswersTask, IsUnread};
 ghost use Rattle.lincheck.specs.Explore.{AnswersExplored, ExploresAs, ExploresSo, IsUnreadSetting, allowed, call_numbers, status_for};
 ghost use Rattle.lincheck.specs.Reading.{OfFile};
 
-use crate::answer::{Answer, Failure, REFUSED, SUCCESS};
+use crate::answer::{Answer, Failure, REFUSED, SUCCESS, Why};
 use crate::check::open_development;
 use crate::files::Files;
 use crate::run::open_plan;
 use lc_base::{OutOfMemory, write_line};
-use lc_findings::find_faults;
+use lc_findings::{Findings, find_faults};
 use lc_numbers::numbers_in;
 use lc_outline::Development;
 use lc_seq::TextCall;
@@ -73,6 +73,14 @@ fn call_numbers(alloc: Global, text: Option<&str>) -> Result<Vec<i64>, OutOfMemo
     }
 }
 
+/// Why a development is not explored to its end.
+fn why_of(found: &Findings) -> Option<Why> {
+    match found.condition {
+        Some(number) => Some(Why::Failing(number)),
+        None => None,
+    }
+}
+
 /// The answer of exploring a development whose clients make the calls of scripts, over so many worlds, if a number is given.
 fn explore_by(
     alloc: Global,
@@ -85,16 +93,17 @@ fn explore_by(
     let numbers = numbers_tried(alloc)?;
     let found = find_faults(alloc, development, scripts, &numbers, allowed(budget))?;
     let status = status_for(found.is_right);
+    let why = why_of(&found);
     Ok(Answer {
         text: found.text,
         status,
-        why: None,
+        why,
     })
 }
 
 /// The answer that there are more worlds than were allowed, or more clients.
 fn told_budget(alloc: Global, budget: Option<u64>) -> Result<Answer, OutOfMemory>
-    ensures { (D : Development) (scripts : Scripts) → IfOk result (λ answer. ExploresSo budget D scripts answer.text.items answer.status) }
+    ensures { (D : outline.Development) (scripts : Scripts) → IfOk result (λ answer. ExploresSo budget D scripts answer.text.items answer.status) }
 {
     let text = write_line(alloc, "budget", &[allowed(budget)])?;
     Ok(Answer {
@@ -113,14 +122,14 @@ fn explore_any(
     text: Option<&str>,
     budget: Option<u64>,
 ) -> Result<Answer, OutOfMemory>
-    ensures { IfOk result (λ answer. ExploresSo budget (development_view development.now) (any_scripts (development_view development.now).object (call_numbers (path_in text.entry)) clients calls) answer.text.items answer.status) }
+    ensures { IfOk result (λ answer. ExploresSo budget (development_view development.now) (any_scripts (development_view development.now).object clients calls (call_numbers (path_in text.entry))) answer.text.items answer.status) }
 {
     let Ok(few) = u32::try_from(clients) else {
         return told_budget(alloc, budget);
     };
     let numbers = call_numbers(alloc, text)?;
     let object = &development.parts().object;
-    let scripts = any_scripts(alloc, object, &numbers, few, calls as usize)?;
+    let scripts = any_scripts(alloc, object, few, calls as usize, &numbers)?;
     let answer = explore_by(alloc, development, &scripts, budget)?;
     Ok(answer)
 }
@@ -154,8 +163,8 @@ fn answer_in<'a, F: Files>(
     scope: Scope<'a>,
     budget: Option<u64>,
 ) -> Result<Answer, Failure<'a>>
-    ensures unread { IsUnreadSetting (F.CannotOpen files.old) (setting_of scope) → IsErr result }
-    ensures answers { IfOk result (λ answer. ExploresAs (F.bytes_at files.old) budget (development_view development.now) (setting_of scope) answer.text.items answer.status) }
+    ensures unread { IsUnreadSetting (F.CannotOpen files.old) (setting_of scope.entry) → IsErr result }
+    ensures answers { IfOk result (λ answer. ExploresAs (F.bytes_at files.old) budget (development_view development.now) (setting_of scope.entry) answer.text.items answer.status) }
 {
     match scope {
         Scope::Plan(path) => answer_explored(alloc, files, development, path, budget),
@@ -179,8 +188,8 @@ pub fn answer_explore<'a, F: Files>(
     scope: Scope<'a>,
     budget: Option<u64>,
 ) -> Result<Answer, Failure<'a>>
-    ensures unread { IsUnread (F.CannotOpen files.old) (F.bytes_at files.old) (ExploreRuns development.now (setting_of scope) budget) → IsErr result }
-    ensures answers { IfOk result (λ answer. AnswersTask (F.bytes_at files.old) (ExploreRuns development.now (setting_of scope) budget) answer.text.items answer.status) }
+    ensures unread { IsUnread (F.CannotOpen files.old) (F.bytes_at files.old) (ExploreRuns development.now (setting_of scope.entry) budget) → IsErr result }
+    ensures answers { IfOk result (λ answer. AnswersTask (F.bytes_at files.old) (ExploreRuns development.now (setting_of scope.entry) budget) answer.text.items answer.status) }
 {
     match open_development(alloc, files, development)? {
         Ok(development) => answer_in(alloc, files, &development, scope, budget),
