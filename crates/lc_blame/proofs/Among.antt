@@ -9,10 +9,12 @@ use Rattle.lc_machine.specs.World.{World, Client, In}
 use Rattle.lc_outline.specs.Development.{Development}
 use Rattle.lc_sound.specs.Claims.{own}
 use Rattle.lc_stages.specs.Stages.{numbers_at}
-use Rattle.lc_blame.specs.Attempts.{IsOnly, FailsAtEntry}
-use Rattle.lc_blame.specs.Blame.{FailsWith, FailsAmong, HasBeside, HaveNumbers, IsActing, point_of}
-use Rattle.lc_blame.specs.declared.acting.Acting.{Acting}
-use Rattle.lc_blame.proofs.Only.{same_place}
+use Rattle.lc_acting.specs.Attempts.{IsOnly}
+use Rattle.lc_blame.specs.Attempts.{FailsAtEntry}
+use Rattle.lc_acting.specs.Acting.{IsActing}
+use Rattle.lc_blame.specs.Blame.{FailsWith, FailsAmong, HasBeside, HaveNumbers, point_of}
+use Rattle.lc_acting.specs.declared.acting.Acting.{Acting}
+use Rattle.lc_acting.proofs.Only.{same_place}
 
 module _ (D : Development) (w : World) (c : ℕ) (what : Option Event) (tried : List ℤ) (k : Condition) where
   abbrev pub Fails : List ℤ → Type 0

@@ -8,7 +8,7 @@ use Rattle.lc_cond.proofs.Sized.{every_at}
 use Rattle.lc_lemmas.proofs.Lists.{kept_left, get_in_front, get_taken}
 use Rattle.lc_term.specs.Lists.{Every}
 use Rattle.lc_term.proofs.Chained.{every_one_more}
-use Rattle.lc_blame.proofs.Viewed.{seen_at}
+use Rattle.lc_acting.proofs.Viewed.{seen_at}
 use Rattle.lc_blame.specs.Blame.{IsFirst}
 
 -- of two lists for which each element is so, it is so of both together

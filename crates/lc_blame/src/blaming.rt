@@ -1,12 +1,12 @@
 //! The first condition that fails where a client takes a step.
 ghost use Rattle.std.specs.Prelude.{◌≡◌, ◌+◌, IfOk, map, option_map};
 ghost use Rattle.lc_cond.specs.ConditionView.{condition_in, AreConditions};
-ghost use Rattle.lc_blame.specs.Attempts.{IsAttempt, IsOnly, development_of, world_of, event_of};
-ghost use Rattle.lc_blame.specs.Blame.{FailsThere, IsActing, IsBlamed, IsFirst};
+ghost use Rattle.lc_acting.specs.Attempts.{IsAttempt, IsOnly, development_of, world_of, event_of};
+ghost use Rattle.lc_acting.specs.Acting.{IsActing};
+ghost use Rattle.lc_blame.specs.Blame.{FailsThere, IsBlamed, IsFirst};
 
-use crate::acting::{Acting, action_of};
-use crate::attempt::Attempt;
 use crate::failing::fails_there;
+use lc_acting::{Acting, Attempt, action_of};
 use lc_base::OutOfMemory;
 use lc_cond::{Condition, ConditionStream};
 use lc_table::Terms;

@@ -10,12 +10,13 @@ ghost use Rattle.lc_cond.specs.Conditions.{NoPassage, ByAction};
 ghost use Rattle.lc_cond.specs.ConditionView.{condition_in, IsCondition};
 ghost use Rattle.lc_stages.specs.Stages.{numbers_at};
 ghost use Rattle.lc_watch.specs.Watched.{Fails};
-ghost use Rattle.lc_blame.specs.Attempts.{IsAttempt, IsOnly, SaysSo, FailsAtEntry, development_of, world_of, event_of};
-ghost use Rattle.lc_blame.specs.Blame.{FailsWith, FailsAmong, FailsThere, HasBeside, HaveNumbers, IsActing, point_of};
+ghost use Rattle.lc_acting.specs.Attempts.{IsAttempt, IsOnly, SaysSo, development_of, world_of, event_of};
+ghost use Rattle.lc_blame.specs.Attempts.{FailsAtEntry};
+ghost use Rattle.lc_acting.specs.Acting.{IsActing};
+ghost use Rattle.lc_blame.specs.Blame.{FailsWith, FailsAmong, FailsThere, HasBeside, HaveNumbers, point_of};
 
-use crate::acting::Acting;
-use crate::attempt::Attempt;
-use crate::placing::{call_numbers, is_at, joined_numbers, own_numbers, place_of};
+use crate::placing::{is_at, joined_numbers, own_numbers};
+use lc_acting::{Acting, Attempt, call_numbers, place_of};
 use lc_base::{OpId, OutOfMemory, PointId};
 use lc_cond::{Condition, Passage};
 use lc_copy::formula_tree;

@@ -1,29 +1,17 @@
 //! Where clients are, and the numbers of variables there.
-ghost use Rattle.std.specs.Prelude.{◌≡◌, ◌++◌, ◌∷◌, pos, List, ℤ, ℕ, length, option_map, IfOk, MatchOption, Some, slice_get};
-ghost use Rattle.lc_machine.specs.View.{client_of, clients_of, variables_of};
-ghost use Rattle.lc_machine.specs.World.{World, In};
+ghost use Rattle.std.specs.Prelude.{◌≡◌, ◌++◌, ◌∷◌, pos, length, option_map, IfOk};
+ghost use Rattle.lc_machine.specs.View.{client_of};
+ghost use Rattle.lc_machine.specs.World.{World};
 ghost use Rattle.lc_sound.specs.Claims.{own};
 ghost use Rattle.lc_outline.specs.Development.{Development};
 ghost use Rattle.lc_stages.specs.Stages.{numbers_at};
-ghost use Rattle.lc_blame.specs.Attempts.{SaysSo};
+ghost use Rattle.lc_acting.specs.Attempts.{SaysSo};
 ghost use Rattle.lc_blame.specs.Blame.{point_of};
 
 use lc_base::{OutOfMemory, PointId};
-use lc_machine::{Client, Place};
-use lc_steps::client_at;
+use lc_machine::Client;
 use lc_term::Env;
 use std::alloc::Global;
-
-/// Where a client is, if it is in a call.
-pub(crate) fn place_of(clients: &[Client], client: u32) -> Option<&Place>
-    ensures { MatchOption result ((p : ℕ) (vs : List ℤ) → slice_get (clients_of clients.now) client ≡ Some (In p vs) → ⊥)
-        (λ place. slice_get (clients_of clients.now) client ≡ Some (In place.now.point.0 (variables_of place.now))) }
-{
-    match client_at(clients, client) {
-        None | Some(Client::Idle) => None,
-        Some(Client::In(place)) => Some(place),
-    }
-}
 
 /// Whether a client is at this point, or in no call if there is none.
 pub(crate) fn is_at(client: &Client, point: Option<PointId>) -> bool
@@ -48,22 +36,6 @@ pub(crate) fn own_numbers(alloc: Global, clients: u32, client: u32) -> Result<En
     let mut values = Vec::new(alloc);
     values.push(i64::from(clients))?;
     values.push(i64::from(client))?;
-    Ok(Env { values })
-}
-
-/// The same, followed by the numbers with which it begins a call.
-pub(crate) fn call_numbers(
-    alloc: Global,
-    clients: u32,
-    client: u32,
-    given: &[i64],
-) -> Result<Env, OutOfMemory>
-    ensures { IfOk result (λ env. env.values.items ≡ own clients client ++ given.now) }
-{
-    let mut values = Vec::new(alloc);
-    values.push(i64::from(clients))?;
-    values.push(i64::from(client))?;
-    values.extend_from_slice(given)?;
     Ok(Env { values })
 }
 

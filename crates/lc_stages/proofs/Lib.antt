@@ -1,3 +1,3 @@
 mod Once
 mod Linearized
-mod Refuted
+pub mod Refuted

@@ -34,6 +34,7 @@ enum Calls {
 fn told(alloc: Global, wrong: Wrong) -> Result<String, AllocError> {
     match wrong {
         Wrong::Unlawful => format!(in alloc; "unlawful"),
+        Wrong::NoAction => format!(in alloc; "no action"),
         Wrong::Overflow => format!(in alloc; "overflow"),
         Wrong::Broken(Claim::Invariant(number)) => format!(in alloc; "invariant {number}"),
         Wrong::Broken(Claim::Asserted { client, number }) => {

@@ -2,9 +2,9 @@ use Rattle.std.proofs.Common.{refl, length}
 use Rattle.std.proofs.lemmas.Option.{slice_get_read}
 use Rattle.lc_cond.proofs.Sized.{every_at}
 use Rattle.lc_cond.specs.ConditionView.{condition_in, IsCondition}
-use Rattle.lc_blame.specs.Attempts.{development_of, world_of, event_of}
+use Rattle.lc_acting.specs.Attempts.{development_of, world_of, event_of}
 use Rattle.lc_blame.specs.Blame.{FailsThere}
-use Rattle.lc_blame.proofs.Deciding.{so_if, not_if}
+use Rattle.lc_acting.proofs.Deciding.{so_if, not_if}
 use Rattle.lc_blame.proofs.Firsts.{found_at, none_more, none_all}
 use Rattle.lc_blame.proofs.blaming.first_failing.Goals as goal
 

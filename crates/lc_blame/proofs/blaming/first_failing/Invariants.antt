@@ -1,7 +1,7 @@
 use Rattle.std.proofs.Common.{map, take}
 use Rattle.lc_term.specs.Lists.{Every}
 use Rattle.lc_cond.specs.ConditionView.{condition_in}
-use Rattle.lc_blame.specs.Attempts.{development_of, world_of, event_of}
+use Rattle.lc_acting.specs.Attempts.{development_of, world_of, event_of}
 use Rattle.lc_blame.specs.Blame.{FailsThere}
 use Rattle.lc_blame.proofs.blaming.first_failing.Given as goal
 

@@ -8,7 +8,7 @@ use Rattle.lc_cond.specs.ConditionView.{condition_in, AreConditions}
 use Rattle.lc_cond.specs.Stream.{IsNextPart, IsPart, IsEnd, conditions_left}
 use Rattle.lc_cond.specs.declared.condition.Condition.{Condition}
 use Rattle.lc_term.specs.Lists.{Every}
-use Rattle.lc_blame.specs.Attempts.{development_of, world_of, event_of}
+use Rattle.lc_acting.specs.Attempts.{development_of, world_of, event_of}
 use Rattle.lc_blame.specs.Blame.{FailsThere, IsFirst}
 use Rattle.lc_blame.proofs.Firsts.{found_in_part, part_passed}
 use Rattle.lc_blame.proofs.blaming.first_of_all.Goals as goal

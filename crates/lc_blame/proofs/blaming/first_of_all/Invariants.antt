@@ -2,7 +2,7 @@ use Rattle.std.proofs.Common.{◌≡◌, List, ◌++◌, length}
 use Rattle.lc_term.specs.Lists.{Every}
 use Rattle.lc_cond.specs.Conditions.{Condition, conditions}
 use Rattle.lc_cond.specs.Stream.{conditions_left, parts_left, next_number}
-use Rattle.lc_blame.specs.Attempts.{development_of, world_of, event_of}
+use Rattle.lc_acting.specs.Attempts.{development_of, world_of, event_of}
 use Rattle.lc_blame.specs.Blame.{FailsThere}
 use Rattle.lc_blame.proofs.blaming.first_of_all.Given as goal
 

@@ -3,10 +3,10 @@ use Rattle.std.proofs.lemmas.List.{length-map}
 use Rattle.lc_cond.specs.ConditionView.{condition_in}
 use Rattle.lc_machine.specs.View.{client_of}
 use Rattle.lc_sound.specs.Claims.{own}
-use Rattle.lc_blame.specs.Attempts.{development_of, world_of, event_of}
+use Rattle.lc_acting.specs.Attempts.{development_of, world_of, event_of}
 use Rattle.lc_blame.specs.Blame.{FailsWith}
 use Rattle.lc_blame.proofs.Among.{start_found, start_more, start_none}
-use Rattle.lc_blame.proofs.Deciding.{so_if, not_if}
+use Rattle.lc_acting.proofs.Deciding.{so_if, not_if}
 use Rattle.lc_blame.proofs.failing.fails_at_start.Goals as goal
 
 pub loop-client-init : goal.loop-client-init

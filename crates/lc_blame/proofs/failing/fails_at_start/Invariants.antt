@@ -1,7 +1,7 @@
 use Rattle.std.proofs.Common.{ℕ, ◌<◌, length}
 use Rattle.lc_cond.specs.ConditionView.{condition_in}
 use Rattle.lc_sound.specs.Claims.{own}
-use Rattle.lc_blame.specs.Attempts.{world_of}
+use Rattle.lc_acting.specs.Attempts.{world_of}
 use Rattle.lc_blame.specs.Blame.{FailsWith}
 use Rattle.lc_blame.proofs.failing.fails_at_start.Given as goal
 

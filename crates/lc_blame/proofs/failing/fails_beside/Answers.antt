@@ -3,10 +3,10 @@ use Rattle.std.specs.Prelude.{option_map}
 use Rattle.std.proofs.lemmas.List.{length-map}
 use Rattle.lc_cond.specs.ConditionView.{condition_in}
 use Rattle.lc_machine.specs.View.{client_of}
-use Rattle.lc_blame.specs.Attempts.{development_of, world_of, event_of}
+use Rattle.lc_acting.specs.Attempts.{development_of, world_of, event_of}
 use Rattle.lc_blame.proofs.Among.{FailsOf, beside_found, beside_more, beside_none}
-use Rattle.lc_blame.proofs.Deciding.{so_if, not_if}
-use Rattle.lc_blame.proofs.Viewed.{seen_at}
+use Rattle.lc_acting.proofs.Deciding.{so_if, not_if}
+use Rattle.lc_acting.proofs.Viewed.{seen_at}
 use Rattle.lc_blame.proofs.failing.fails_beside.Goals as goal
 
 pub loop-i-init : goal.loop-i-init

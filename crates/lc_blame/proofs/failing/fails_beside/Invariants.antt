@@ -4,7 +4,7 @@ use Rattle.lc_machine.specs.Step.{IsClient}
 use Rattle.lc_machine.specs.World.{Client}
 use Rattle.lc_cond.specs.ConditionView.{condition_in}
 use Rattle.lc_stages.specs.Stages.{numbers_at}
-use Rattle.lc_blame.specs.Attempts.{development_of, world_of}
+use Rattle.lc_acting.specs.Attempts.{development_of, world_of}
 use Rattle.lc_blame.specs.Blame.{FailsWith, point_of}
 use Rattle.lc_blame.proofs.failing.fails_beside.Given as goal
 

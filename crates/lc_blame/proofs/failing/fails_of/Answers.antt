@@ -4,10 +4,10 @@ use Rattle.std.proofs.lemmas.List.{length-map}
 use Rattle.lc_cond.specs.ConditionView.{condition_in}
 use Rattle.lc_machine.specs.View.{client_of}
 use Rattle.lc_stages.specs.Stages.{numbers_at}
-use Rattle.lc_blame.specs.Attempts.{SaysSo, development_of, world_of, event_of}
+use Rattle.lc_acting.specs.Attempts.{SaysSo, development_of, world_of, event_of}
 use Rattle.lc_blame.specs.Blame.{FailsWith, point_of}
 use Rattle.lc_blame.proofs.Among.{FailsOf}
-use Rattle.lc_blame.proofs.Deciding.{says_ok}
+use Rattle.lc_acting.proofs.Deciding.{says_ok}
 use Rattle.lc_blame.proofs.failing.fails_of.Goals as goal
 
 pub returns : goal.returns

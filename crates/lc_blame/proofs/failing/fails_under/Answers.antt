@@ -2,11 +2,12 @@ use Rattle.std.proofs.Common.{◌≡◌, List, ℤ, subst, rules}
 use Rattle.std.specs.Prelude.{Option, Some, IfOk, option_map}
 use Rattle.lc_cond.specs.Conditions.{ByAction}
 use Rattle.lc_cond.specs.ConditionView.{condition_in}
-use Rattle.lc_blame.specs.Attempts.{IsOnly, SaysSo, development_of, world_of, event_of}
-use Rattle.lc_blame.specs.Blame.{FailsAmong, HasBeside, HaveNumbers, IsActing}
-use Rattle.lc_blame.specs.declared.acting.Acting.{Acting}
+use Rattle.lc_acting.specs.Attempts.{IsOnly, SaysSo, development_of, world_of, event_of}
+use Rattle.lc_acting.specs.Acting.{IsActing}
+use Rattle.lc_blame.specs.Blame.{FailsAmong, HasBeside, HaveNumbers}
+use Rattle.lc_acting.specs.declared.acting.Acting.{Acting}
 use Rattle.lc_blame.proofs.Among.{under_as}
-use Rattle.lc_blame.proofs.Deciding.{says_ok}
+use Rattle.lc_acting.proofs.Deciding.{says_ok}
 use Rattle.lc_blame.proofs.failing.fails_under.Goals as goal
 
 pub returns-else-acting-action : goal.returns-else-acting-action

@@ -4,7 +4,7 @@ use Rattle.lc_table.specs.declared.node.FormulaId.{FormulaId}
 use Rattle.lc_table.proofs.Listed.{are_formulas-get}
 use Rattle.lc_term.specs.State.{state_of}
 use Rattle.lc_watch.specs.Watched.{Fails}
-use Rattle.lc_blame.proofs.Deciding.{so_if, not_if}
+use Rattle.lc_acting.proofs.Deciding.{so_if, not_if}
 use Rattle.lc_blame.proofs.Firsts.{not_none, none_more, none_all, read_is}
 use Rattle.lc_blame.proofs.failing.none_fails.Goals as goal
 

@@ -1,0 +1,4 @@
+pub mod Attempts
+pub mod Acting
+pub mod Left
+pub mod NoAction
