@@ -52,7 +52,7 @@ module _ (D : Development) (w : World) (c : ℕ) (what : Option Event) where
   HaveNumbers NoPassage (Some p) vs = (ns : List ℤ) × Begins p ns × (vs ≡ own (length w.clients) c ++ ns)
   HaveNumbers (ByEdge e) None vs = ⊥
   HaveNumbers (ByEdge e) (Some p) vs = IsClient w c (In p vs)
-  HaveNumbers (ByAction i) point vs = (args : List ℤ) × IsActing what i args × HasBeside point args vs
+  HaveNumbers (ByAction i) point vs = (args : List ℤ) × IsActing D w c what what i args × HasBeside point args vs
 
   -- a condition fails there, with numbers that clients have
   abbrev pub FailsThere : List ℤ → Condition → Type 0
