@@ -1,14 +1,13 @@
 //! What lc_bare promises, once more.
-ghost use Rattle.std.specs.Prelude.{IfOk, IfSome};
-ghost use Rattle.lc_bare.specs.Replays.{IsHistory};
+ghost use Rattle.std.specs.Prelude.{IfOk};
+ghost use Rattle.lc_findings.specs.Bare.{FindsBare};
 ghost use Rattle.lc_bare.specs.Toured.{IsToured};
-ghost use Rattle.lc_history.specs.View.{events_of};
 ghost use Rattle.lc_outline.specs.DevelopmentView.{development_view};
 ghost use Rattle.lc_worlds.specs.Seats.{scripts_view};
 
-use lc_bare::{Toured, bare_tour, events_of_run};
+use lc_bare::{Toured, bare_tour};
 use lc_base::OutOfMemory;
-use lc_history::Event;
+use lc_findings::{Findings, find_bare_faults};
 use lc_outline::Development;
 use lc_seq::TextCall;
 use std::alloc::Global;
@@ -26,14 +25,14 @@ pub fn bare_touring(
     bare_tour(alloc, development, scripts, budget, nodes)
 }
 
-/// The events of a run are those of steps of the object by its ways.
-pub fn bare_telling(
+/// What is said of an object that was explored alone is so, with a history that no order linearizes.
+pub fn bare_finding(
     alloc: Global,
     development: &Development,
     scripts: &[Vec<Vec<TextCall>>],
-    ways: &[usize],
-) -> Result<Option<Vec<Event>>, OutOfMemory>
-    ensures { IfOk result (λ found. IfSome found (λ events. IsHistory (development_view development.now).object (scripts_view scripts.now) ways.now (events_of events.items))) }
+    budget: u64,
+) -> Result<Findings, OutOfMemory>
+    ensures { IfOk result (λ f. FindsBare (development_view development.now) (scripts_view scripts.now) budget f.text.items f.is_right) }
 {
-    events_of_run(alloc, development, scripts, ways)
+    find_bare_faults(alloc, development, scripts, budget)
 }
