@@ -33,9 +33,6 @@ module _ {A B : Type 0} (f : A → B) (xs : List A) (i : ℕ) where
 pub read_more : {A B : Type 0} (f : A → B) (xs : List A) (i : ℕ) (d : A) → i < length xs → map f (take (i + 1) xs) ≡ map f (take i xs) ++ f (get_or xs i d) ∷ []
 read_more f xs i d lt = taken_more f xs i (get_or xs i d) lt (get_or_default xs i d (get_or xs i d) lt)
 
-pub every_read : {A B : Type 0} (f : A → B) (xs : List A) (i : ℕ) (P : B → Type 0) (d : A) → i < length xs → P (f (get_or xs i d)) → Every P (map f (take i xs)) → Every P (map f (take (i + 1) xs))
-every_read f xs i P d lt so all = every_next f xs i P (get_or xs i d) lt (get_or_default xs i d (get_or xs i d) lt) so all
-
 pub read_at : {A B : Type 0} (f : A → B) (xs : List A) (i : ℕ) (d : A) → i < length xs → slice_get (map f xs) i ≡ Some (f (get_or xs i d))
 read_at f xs i d lt = seen_at f xs i (get_or xs i d) lt (get_or_default xs i d (get_or xs i d) lt)
 
