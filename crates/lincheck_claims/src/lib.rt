@@ -2,11 +2,11 @@
 //! return something wrong where the call returns what is right.
 #![tactic(auto)]
 
-ghost use Rattle.std.specs.Prelude.{◌≡◌, ◌⊎◌, List, None, Some, codes, false, ℕ};
+ghost use Rattle.std.specs.Prelude.{◌≡◌, ◌⊎◌, Bool, List, None, Some, codes, false, ℕ};
 ghost use Rattle.lc_cond_text.specs.ConditionText.{conditions_text};
 ghost use Rattle.lc_lib_texts.specs.Texts.{development_bytes};
 ghost use Rattle.lc_words.specs.Reading.{AreWrong};
-ghost use Rattle.lc_words.specs.Tasks.{BeginDevelopment, CarryWithHints, CheckByWorkers, CheckCertificate, CheckFormula, DrawHistory, FindOrder, JudgeHistory, ListConditions, MakeWhole, PrintLibrary, ProveWithHints, RunPlan, ShowLines, Task, texts_of};
+ghost use Rattle.lc_words.specs.Tasks.{BeginDevelopment, ByPlan, CarryWithHints, CheckByWorkers, CheckCertificate, CheckFormula, DrawHistory, ExploreRuns, FindOrder, JudgeHistory, ListConditions, MakeWhole, PrintLibrary, ProveWithHints, RunPlan, ShowLines, Task, texts_of};
 ghost use Rattle.lc_words.specs.declared.request.LibraryText.TheVariants.{Development};
 ghost use Rattle.lc_words.specs.declared.request.Shown.{Shown};
 ghost use Rattle.lc_words.specs.declared.request.Turns.{Turns};
@@ -15,6 +15,7 @@ ghost use Rattle.lincheck.specs.Check.{AnswersCheck, AnswersDevelopment};
 ghost use Rattle.lincheck.specs.Complete.{AnswersComplete};
 ghost use Rattle.lincheck.specs.Draw.{AnswersDraw};
 ghost use Rattle.lincheck.specs.Execution.{AnswersTask};
+ghost use Rattle.lincheck.specs.Explore.{AnswersExplore};
 ghost use Rattle.lincheck.specs.Formula.{AnswersFormula};
 ghost use Rattle.lincheck.specs.Judge.{AnswersJudge};
 ghost use Rattle.lincheck.specs.Lines.{AnswersLines};
@@ -76,6 +77,14 @@ impl<'a, R: Threads + Wait + Sync> Program<'a, R> {
         ensures { EndsWith (texts_of self.old.words.now) (MakeWhole (codes "a") None) (AnswersComplete self.old.files.0.now) whole.old.items whole.new.items result }
     {
         self.execute(whole, err)
+    }
+
+    /// `explore` prints what exploring a development by a plan finds, or its object alone.
+    pub fn exploring(&mut self, found: &mut Vec<u8>, err: &mut Vec<u8>) -> u8
+        ensures { let files = self.old.files in (bare : Bool) → EndsWith (texts_of self.old.words.now) (ExploreRuns (codes "a") (ByPlan (codes "b")) bare None)
+            (AnswersExplore (file_at files.0.now files.1.now files.2.now files.3.now) bare None (ByPlan (codes "b")) files.0.now) found.old.items found.new.items result }
+    {
+        self.execute(found, err)
     }
 
     /// `conditions` prints a line for each condition of a development. On `OutOfMemory` a beginning of them may have been written.
